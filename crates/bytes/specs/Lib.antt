@@ -1,0 +1,4 @@
+pub mod Bytes
+pub mod Counter
+pub mod Block
+pub mod Examples
