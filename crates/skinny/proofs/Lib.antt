@@ -1,0 +1,5 @@
+mod Cells
+mod Computed
+pub mod Sixteen
+mod Updates
+pub mod Worked

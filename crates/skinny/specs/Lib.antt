@@ -1,0 +1,4 @@
+pub mod Skinny
+pub mod RoundCount
+pub mod Schedule
+pub mod Examples
