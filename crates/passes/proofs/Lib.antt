@@ -1,0 +1,3 @@
+pub mod Absorbing
+pub mod Walking
+pub mod Back

@@ -1,0 +1,3 @@
+pub mod ModeM
+pub mod Examples
+pub mod Joined

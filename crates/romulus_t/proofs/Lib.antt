@@ -1,0 +1,4 @@
+pub mod Tags
+pub mod Streams
+pub mod Laws
+pub mod Worked

@@ -1,0 +1,2 @@
+pub mod ModeT
+pub mod Examples
