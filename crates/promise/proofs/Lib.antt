@@ -1,0 +1,5 @@
+pub mod Questions
+pub mod Runs
+pub mod Kept
+pub mod Outside
+pub mod Pinned

@@ -1,0 +1,14 @@
+//! What a post promises over whole runs, as definitions, and the proofs that every run keeps it.
+ghost use Rattle.promise.specs.Promises.{Never-twice, Every-seal-that-can-be-is-taken, Opens-exactly-the-right-frames, Numbers-costs-readings, Every-run, Every-run-counts, Every-two-runs, Nothing-left-open};
+
+/// Every run of a post, whatever its calls, keeps every promise. The theorems stand in the contract; the call does nothing.
+pub fn promises_hold()
+    ensures never_twice { λ _. ⌜ Every-run Never-twice ⌝ }
+    ensures seals { λ _. ⌜ Every-run Every-seal-that-can-be-is-taken ⌝ }
+    ensures opens { λ _. ⌜ Every-run Opens-exactly-the-right-frames ⌝ }
+    ensures answers { λ _. ⌜ Every-run Numbers-costs-readings ⌝ }
+    ensures counts { λ _. ⌜ Every-run-counts ⌝ }
+    ensures outside { λ _. ⌜ Every-two-runs ⌝ }
+    ensures pinned { λ _. ⌜ Nothing-left-open ⌝ }
+{
+}
