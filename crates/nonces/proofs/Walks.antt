@@ -75,9 +75,10 @@ first-apart x xs n = all-from-getD (λ y. x ≢ y) xs x (λ i h e. n 0 (suc i) (
 pub apart-more : (xs : List ℕ) → 2 ≤ length xs → listed (first xs) (sheet-nonces (rest xs)) ≡ false →
     (No-repeats (sheet-nonces (rest xs)) → No-repeats (sheet-nonces xs)) × (No-repeats (sheet-nonces xs) → No-repeats (sheet-nonces (rest xs)))
 apart-more xs h e =
-    let s : sheet-nonces xs ≡ first xs ∷ sheet-nonces (rest xs) = sheet-more xs h in
-    ((λ n. rw s (more-apart (first xs) (sheet-nonces (rest xs)) (unlisted (first xs) (sheet-nonces (rest xs)) e) n)),
-     (λ n. rest-apart (first xs) (sheet-nonces (rest xs)) (rw s at n)))
+    let s : sheet-nonces xs ≡ first xs ∷ sheet-nonces (rest xs) = sheet-more xs h in (
+      (λ n. rw s (more-apart (first xs) (sheet-nonces (rest xs)) (unlisted (first xs) (sheet-nonces (rest xs)) e) n)),
+      (λ n. rest-apart (first xs) (sheet-nonces (rest xs)) (rw s at n)),
+    )
 
 pub repeats-here : (xs : List ℕ) → 2 ≤ length xs → listed (first xs) (sheet-nonces (rest xs)) ≡ true → No-repeats (sheet-nonces xs) → ⊥
 repeats-here xs h e n = listed-apart (first xs) (sheet-nonces (rest xs)) e (first-apart (first xs) (sheet-nonces (rest xs)) (rw (sheet-more xs h) at n))
@@ -99,12 +100,13 @@ last-places-none (x ∷ xs) e =
     (cases-bool (listed x xs))
 
 pub sheet-empty : (xs : List ℕ) → Decides (ltb (length xs) 2) (last-places (sheet-nonces xs) ≡ [])
-sheet-empty xs =
-    ( (λ e. ap last-places (sheet-none xs (ltb-true (length xs) 2 e)))
-    , (λ e. ⊎-elim
-        (λ (h : length xs < 2). lt-ltb (length xs) 2 h)
-        (λ (h : 2 ≤ length xs). let n : sheet-nonces xs ≡ [] = last-places-none (sheet-nonces xs) e in let m = sheet-more xs h in let z : _≡_ {A = ℕ} 0 1 = cc in absurd (omega arith))
-        (cases-lt (length xs) 2)))
+sheet-empty xs = (
+  (λ e. ap last-places (sheet-none xs (ltb-true (length xs) 2 e))),
+  (λ e. ⊎-elim
+      (λ (h : length xs < 2). lt-ltb (length xs) 2 h)
+      (λ (h : 2 ≤ length xs). let n : sheet-nonces xs ≡ [] = last-places-none (sheet-nonces xs) e in let m = sheet-more xs h in let z : _≡_ {A = ℕ} 0 1 = cc in absurd (omega arith))
+      (cases-lt (length xs) 2)),
+)
 
 -- a nonce that comes again is passed over, and any other is given
 pub passed-over : (xs : List ℕ) → 2 ≤ length xs → listed (first xs) (sheet-nonces (rest xs)) ≡ true → last-places (sheet-nonces xs) ≡ last-places (sheet-nonces (rest xs))

@@ -1,4 +1,5 @@
--- The nonces of a counting source and of a sheet are what a source owes: proofs, which no reader has to believe.
+-- That the nonces of a counting source and of a sheet are what a source owes.
+-- These are proofs, checked like any other and nothing to believe; they stand here since the sources hand them over as ghost members.
 use mathlib.Core.Path.{_≡_, refl, sym, ap, _∙_}
 use mathlib.Core.Logic.{_≢_}
 use mathlib.Core.Bool.{Bool, true, false, cond}

@@ -41,7 +41,11 @@ impl Counting {
         if amount > u64::MAX - first {
             return Err(Refusal::CountRange);
         }
-        Ok(Counting { prefix: copied(prefix), count: first, left: amount })
+        Ok(Counting {
+            prefix: copied(prefix),
+            count: first,
+            left: amount,
+        })
     }
 }
 

@@ -44,5 +44,8 @@ pub fn two_numbers(nonce: &[u8; 16]) -> (u64, u64)
 fn joined(a: &[u8; 8], b: &[u8; 8]) -> [u8; 16]
     ensures { λ r. ⌜ r ≡ now (a .entry) ++ now (b .entry) ⌝ }
 {
-    [a[0], a[1], a[2], a[3], a[4], a[5], a[6], a[7], b[0], b[1], b[2], b[3], b[4], b[5], b[6], b[7]]
+    let mut r = [0; 16];
+    r[0..8].copy_from_slice(a);
+    r[8..16].copy_from_slice(b);
+    r
 }

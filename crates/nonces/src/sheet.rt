@@ -72,7 +72,8 @@ pub impl<'a> NonceSource for Sheet<'a> as SheetSource {
         self.rest.len() < 2
     }
 
-    // A value that borrows carries no invariant, so that the nonce is compared with the later ones once more.
+    // The struct states no invariant, since the check does not cover a `Result` of a borrowing struct that has one.
+    // So a nonce that comes again later is passed over here; a sheet that `new` has checked holds none.
     fn next(&mut self) -> Option<[u8; 16]> {
         while let [high, low, rest @ ..] = self.rest {
             self.rest = rest;

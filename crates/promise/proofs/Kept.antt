@@ -51,12 +51,12 @@ seal-12 m s ad message out tag r f e =
 open-not-12 : (m : Scheme) (s : Standing) (nonce ad text tag out : List ℕ) (r : Refusal) → first-no (questions m s (Open nonce ad text tag out)) ≡ Some r → number-of r ≡ 12 → ⊥
 open-not-12 m s nonce ad text tag out r f e =
     let z : None ≡ Some r =
-        passed 12 AllowanceSpent (leb (price m (Open nonce ad text tag out)) (s .left)) [] r e (λ z. omega arith)
-        (passed 12 NonceLength (eqb (length nonce) 16) _ r e (λ z. omega arith)
-        (passed 12 TagLength (eqb (length tag) 16) _ r e (λ z. omega arith)
-        (passed 12 OutputLength (eqb (length out) (length text)) _ r e (λ z. omega arith)
-        (passed 12 TextLength (leb (length text) 65535) _ r e (λ z. omega arith)
-        (passed 12 DataLength (leb (length ad) 65535) _ r e (λ z. omega arith) f))))) in
+    passed 12 AllowanceSpent (leb (price m (Open nonce ad text tag out)) (s .left)) [] r e (λ z. omega arith)
+    (passed 12 NonceLength (eqb (length nonce) 16) _ r e (λ z. omega arith)
+    (passed 12 TagLength (eqb (length tag) 16) _ r e (λ z. omega arith)
+    (passed 12 OutputLength (eqb (length out) (length text)) _ r e (λ z. omega arith)
+    (passed 12 TextLength (leb (length text) 65535) _ r e (λ z. omega arith)
+    (passed 12 DataLength (leb (length ad) 65535) _ r e (λ z. omega arith) f))))) in
     some-not-none r (sym z)
 
 record Facts (m : Scheme) (s : Standing) (c : Call) (a : Reply) : Type 0 where
@@ -107,7 +107,7 @@ open-facts m ok s nonce ad text tag out None a e (right, written, q, op) =
 open-facts m ok s nonce ad text tag out (Some r) a e f =
     let c : Call = Open nonce ad text tag out in
     let k : Facts m s c (refusal-reply r (out ∷ [])) =
-        record { pays = omega arith; clears = λ _. refl; free = λ _ _. refl; early = λ z. absurd (open-not-12 m s nonce ad text tag out r e z) } in
+    record { pays = omega arith; clears = λ _. refl; free = λ _ _. refl; early = λ z. absurd (open-not-12 m s nonce ad text tag out r e z) } in
     subst (λ (x : Reply). Facts m s c x) (sym f) k
 
 facts : (m : Scheme) → Keeps m → (s : Standing) (c : Call) (a : Reply) → Fits m s c a → Facts m s c a
@@ -116,12 +116,12 @@ facts m ok s (Seal ad message out tag) a f =
 facts m ok s (Open nonce ad text tag out) a f = open-facts m ok s nonce ad text tag out (first-no (questions m s (Open nonce ad text tag out))) a refl f
 facts m ok s Read a f =
     let k : Facts m s Read (Told (s .left) (s .sealed) (s .opened) (s .wrong)) =
-        record {
-          pays = omega arith;
-          clears = λ (n : _≢_ {A = ℕ} 0 0). absurd (n refl);
-          free = λ _ _. refl;
-          early = λ (z : _≡_ {A = ℕ} 0 12). absurd (omega arith);
-        } in
+    record {
+      pays = omega arith;
+      clears = λ (n : _≢_ {A = ℕ} 0 0). absurd (n refl);
+      free = λ _ _. refl;
+      early = λ (z : _≡_ {A = ℕ} 0 12). absurd (omega arith);
+    } in
     subst (λ (x : Reply). Facts m s Read x) (sym f) k
 
 -- ---- numbers, costs, readings
@@ -154,11 +154,11 @@ every-seal m ok g es r =
     let each = ran-each m g es r in
     record {
       taken = λ before ad message out tag a came can n later e.
-        let s : Standing = standing g before in
-        let p = some-next (s .nonces) n later e in
-        let none : first-no (questions m s (Seal ad message out tag)) ≡ None = seal-unrefused m s ad message out tag (record { sizes = can .sizes; enough = can .enough; some = p .0 }) in
-        each before (Seal ad message out tag) a came ∙ ap (seal-reply m s ad message out tag) none
-        ∙ ap (λ (k : List ℕ). Gave 0 (words k) (m .costs (length ad) (length message) .seal) (m .frame (g .cipher) (g .key) k ad message .0 ∷ m .frame (g .cipher) (g .key) k ad message .1 ∷ [])) (p .1);
+          let s : Standing = standing g before in
+          let p = some-next (s .nonces) n later e in
+          let none : first-no (questions m s (Seal ad message out tag)) ≡ None = seal-unrefused m s ad message out tag (record { sizes = can .sizes; enough = can .enough; some = p .0 }) in
+          each before (Seal ad message out tag) a came ∙ ap (seal-reply m s ad message out tag) none
+          ∙ ap (λ (k : List ℕ). Gave 0 (words k) (m .costs (length ad) (length message) .seal) (m .frame (g .cipher) (g .key) k ad message .0 ∷ m .frame (g .cipher) (g .key) k ad message .1 ∷ [])) (p .1);
       never-early = λ before c a came. facts m ok (standing g before) c a (each before c a came) .early;
     }
 
@@ -184,15 +184,15 @@ pub opens : (m : Scheme) → Keeps m → (g : Making) (es : List Event) → Ran 
 opens m ok g es r =
     let each = ran-each m g es r in
     let none : (before : List Event) (nonce ad text tag out : List ℕ) → Allowed m g before (Open nonce ad text tag out) → first-no (questions m (standing g before) (Open nonce ad text tag out)) ≡ None =
-        λ before nonce ad text tag out can. open-unrefused m (standing g before) nonce ad text tag out (can .sizes) (can .enough) in
+    λ before nonce ad text tag out can. open-unrefused m (standing g before) nonce ad text tag out (can .sizes) (can .enough) in
     let judged : (before : List Event) (nonce ad text tag out : List ℕ) (a : Reply) → Came es before (Open nonce ad text tag out) a → Allowed m g before (Open nonce ad text tag out) → Open-fits m (standing g before) nonce ad text tag out None a =
-        λ before nonce ad text tag out a came can.
-          subst (λ (o : Option Refusal). Open-fits m (standing g before) nonce ad text tag out o a) (none before nonce ad text tag out can) (each before (Open nonce ad text tag out) a came) in
+    λ before nonce ad text tag out a came can.
+    subst (λ (o : Option Refusal). Open-fits m (standing g before) nonce ad text tag out o a) (none before nonce ad text tag out can) (each before (Open nonce ad text tag out) a came) in
     record {
       right = λ before nonce ad text tag out a came can message t. opens-right m ok (standing g before) nonce ad text tag out message a (judged before nonce ad text tag out a came can) t;
       wrong = λ before nonce ad text tag out a came can n. opens-wrong m (standing g before) nonce ad text tag out a (none before nonce ad text tag out can) (judged before nonce ad text tag out a came can) n;
       only-right = λ before nonce ad text tag out a came e.
-        opens-only m (standing g before) nonce ad text tag out (first-no (questions m (standing g before) (Open nonce ad text tag out))) a (each before (Open nonce ad text tag out) a came) e;
+          opens-only m (standing g before) nonce ad text tag out (first-no (questions m (standing g before) (Open nonce ad text tag out))) a (each before (Open nonce ad text tag out) a came) e;
       one-message = λ nonce ad text tag one two p q. ok .one-message (g .cipher) (g .key) nonce ad one two (p ∙ sym q);
     }
 

@@ -70,7 +70,7 @@ same-onward p q c d a b s z h =
 
 -- ---- a seal
 module _ (m : Scheme) (p q : Standing) (ad message out tag ad′ message′ out′ tag′ : List ℕ) (s : Same p q)
-  (la : length ad ≡ length ad′) (lm : length message ≡ length message′) (lo : length out ≡ length out′) (lt : length tag ≡ length tag′) where
+    (la : length ad ≡ length ad′) (lm : length message ≡ length message′) (lo : length out ≡ length out′) (lt : length tag ≡ length tag′) where
   same-seal-costs : m .costs (length ad) (length message) ≡ m .costs (length ad′) (length message′)
   same-seal-costs = cc
 
@@ -89,7 +89,7 @@ module _ (m : Scheme) (p q : Standing) (ad message out tag ad′ message′ out�
 
 -- ---- an opening
 module _ (m : Scheme) (p q : Standing) (nonce ad text tag out nonce′ ad′ text′ tag′ out′ : List ℕ) (s : Same p q)
-  (ln : length nonce ≡ length nonce′) (la : length ad ≡ length ad′) (lx : length text ≡ length text′) (lt : length tag ≡ length tag′) (lo : length out ≡ length out′) where
+    (ln : length nonce ≡ length nonce′) (la : length ad ≡ length ad′) (lx : length text ≡ length text′) (lt : length tag ≡ length tag′) (lo : length out ≡ length out′) where
   same-open-costs : m .costs (length ad) (length text) ≡ m .costs (length ad′) (length text′)
   same-open-costs = cc
 
@@ -100,8 +100,8 @@ module _ (m : Scheme) (p q : Standing) (nonce ad text tag out nonce′ ad′ tex
       cc
 
   same-judged : (right right′ : Bool) (written written′ : List ℕ) → Opened m (p .cipher) (p .key) nonce ad text tag right written → Opened m (q .cipher) (q .key) nonce′ ad′ text′ tag′ right′ written′ →
-    (Right m (p .cipher) (p .key) nonce ad text tag ↔ Right m (q .cipher) (q .key) nonce′ ad′ text′ tag′) →
-    Same-outside (verdict-reply (m .costs (length ad) (length text)) right written) (verdict-reply (m .costs (length ad′) (length text′)) right′ written′)
+      (Right m (p .cipher) (p .key) nonce ad text tag ↔ Right m (q .cipher) (q .key) nonce′ ad′ text′ tag′) →
+      Same-outside (verdict-reply (m .costs (length ad) (length text)) right written) (verdict-reply (m .costs (length ad′) (length text′)) right′ written′)
   same-judged true true w w′ o o′ v = (refl, refl, ap (λ (c : Costs). c .right) same-open-costs, λ (z : _≢_ {A = ℕ} 0 0). absurd (z refl))
   same-judged true false w w′ o o′ v = absurd (o′ .0 (v .0 (w, o)))
   same-judged false true w w′ o o′ v = absurd (o .0 (v .1 (w′, o′)))
@@ -112,7 +112,7 @@ module _ (m : Scheme) (p q : Standing) (nonce ad text tag out nonce′ ad′ tex
       (refl, refl, ap (λ (c : Costs). c .wrong) same-open-costs, λ _. y)
 
   same-open : (o : Option Refusal) (a b : Reply) → Open-fits m p nonce ad text tag out o a → Open-fits m q nonce′ ad′ text′ tag′ out′ o b →
-    (o ≡ None → (Right m (p .cipher) (p .key) nonce ad text tag ↔ Right m (q .cipher) (q .key) nonce′ ad′ text′ tag′)) → Same-outside a b
+      (o ≡ None → (Right m (p .cipher) (p .key) nonce ad text tag ↔ Right m (q .cipher) (q .key) nonce′ ad′ text′ tag′)) → Same-outside a b
   same-open None a b (right, written, e, op) (right′, written′, e′, op′) v = subst₂ Same-outside (sym e) (sym e′) (same-judged right right′ written written′ op op′ (v refl))
   same-open (Some r) a b e e′ v =
       let y : _≡_ {A = List (List ℕ)} (zeros out ∷ []) (zeros out′ ∷ []) = cc in
@@ -157,12 +157,14 @@ module _ (m : Scheme) (g h : Making) (all all′ : List Event) (alike : Alike m 
   both b b′ (c ∷ cs) [] ea eb l s r r′ z = z
   both b b′ (event c x ∷ es) (event d y ∷ ds) ea eb l s r r′ z =
       let o : Same-outside x y =
-            call-same m (standing g b) (standing h b′) s c d x y (r .0) (r′ .0) (z .0)
-            (λ p q. subst₂ (λ (u v : Type 0). u ↔ v) (sym (at-verdict m g b c)) (sym (at-verdict m h b′ d)) (alike .verdicts b c x b′ d y (es, ea) (ds, eb) l p q)) in
+      call-same m (standing g b) (standing h b′) s c d x y (r .0) (r′ .0) (z .0)
+      (λ p q. subst₂ (λ (u v : Type 0). u ↔ v) (sym (at-verdict m g b c)) (sym (at-verdict m h b′ d)) (alike .verdicts b c x b′ d y (es, ea) (ds, eb) l p q)) in
       let n : Same (standing g (b ++ (event c x ∷ []))) (standing h (b′ ++ (event d y ∷ []))) =
-            subst₂ Same (sym (standing-push g b (event c x))) (sym (standing-push h b′ (event d y))) (same-onward (standing g b) (standing h b′) c d x y s (z .0) o) in
-      (o, both (b ++ (event c x ∷ [])) (b′ ++ (event d y ∷ [])) es ds (ea ∙ sym (append-assoc b (event c x ∷ []) es)) (eb ∙ sym (append-assoc b′ (event d y ∷ []) ds))
-        (simp length-append (omega arith)) n (r .1) (r′ .1) (z .1))
+      subst₂ Same (sym (standing-push g b (event c x))) (sym (standing-push h b′ (event d y))) (same-onward (standing g b) (standing h b′) c d x y s (z .0) o) in (
+        o,
+        both (b ++ (event c x ∷ [])) (b′ ++ (event d y ∷ [])) es ds (ea ∙ sym (append-assoc b (event c x ∷ []) es)) (eb ∙ sym (append-assoc b′ (event d y ∷ []) ds))
+            (simp length-append (omega arith)) n (r .1) (r′ .1) (z .1),
+      )
 
 pub outside : (m : Scheme) (g h : Making) (es ds : List Event) (t u : Standing) → Run m (fresh g) es t → Run m (fresh h) ds u → Outside-sees-only-sizes-and-verdicts m g h es ds
 outside m g h es ds t u r r′ e n alike =

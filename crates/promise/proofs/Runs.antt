@@ -28,11 +28,11 @@ standing-push g es e =
     let c = how-many-push wrong-open es e in
     let d = costs-push es e in
     let n : drop (how-many taken-seal (es ++ (e ∷ []))) (g .nonces) ≡ drop (tick (taken-seal e)) (drop (how-many taken-seal es) (g .nonces)) =
-          ap (λ (k : ℕ). drop k (g .nonces)) a ∙ sym (drop-drop (tick (taken-seal e)) (how-many taken-seal es) (g .nonces)) in
+    ap (λ (k : ℕ). drop k (g .nonces)) a ∙ sym (drop-drop (tick (taken-seal e)) (how-many taken-seal es) (g .nonces)) in
     let l : g .allowance - costs-told (es ++ (e ∷ [])) ≡ g .allowance - costs-told es - cost-told (reply-of e) = omega arith in
     let s : g .count + costs-told (es ++ (e ∷ [])) ≡ g .count + costs-told es + cost-told (reply-of e) = omega arith in
     let k : (g .count + costs-told (es ++ (e ∷ []))) % 2 ^ 64 ≡ ((g .count + costs-told es) % 2 ^ 64 + cost-told (reply-of e)) % 2 ^ 64 =
-          ap (λ (x : ℕ). x % 2 ^ 64) s ∙ sym (mod-add-mod (g .count + costs-told es) (2 ^ 64) (cost-told (reply-of e))) in
+    ap (λ (x : ℕ). x % 2 ^ 64) s ∙ sym (mod-add-mod (g .count + costs-told es) (2 ^ 64) (cost-told (reply-of e))) in
     cc
 
 -- after the events b, the answers of es fit

@@ -109,7 +109,7 @@ refusal-reply r before = Gave (number-of r) (0, 0) 0 (map zeros before)
 abbrev pub seal-reply : Scheme → Standing → (ad message out tag : List ℕ) → Option Refusal → Reply
 seal-reply m s ad message out tag None =
     Gave 0 (words (next (s .nonces))) (m .costs (length ad) (length message) .seal)
-      (m .frame (s .cipher) (s .key) (next (s .nonces)) ad message .0 ∷ m .frame (s .cipher) (s .key) (next (s .nonces)) ad message .1 ∷ [])
+    (m .frame (s .cipher) (s .key) (next (s .nonces)) ad message .0 ∷ m .frame (s .cipher) (s .key) (next (s .nonces)) ad message .1 ∷ [])
 seal-reply m s ad message out tag (Some r) = refusal-reply r (out ∷ tag ∷ [])
 
 -- What an opening answers by its verdict.

@@ -36,19 +36,19 @@ pub record Never-twice (m : Scheme) (g : Making) (es : List Event) : Type 0 wher
 -- with the mode's ciphertext and tag under n. That no nonce is left (12) is answered only where none is.
 pub record Every-seal-that-can-be-is-taken (m : Scheme) (g : Making) (es : List Event) : Type 0 where
   pub taken : (before : List Event) (ad message out tag : List ℕ) (a : Reply) → Came es before (Seal ad message out tag) a → Allowed m g before (Seal ad message out tag) →
-    (n : List ℕ) (later : List (List ℕ)) → nonces-to-come g before ≡ n ∷ later →
-    a ≡ Gave 0 (words n) (m .costs (length ad) (length message) .seal) (m .frame (g .cipher) (g .key) n ad message .0 ∷ m .frame (g .cipher) (g .key) n ad message .1 ∷ [])
+      (n : List ℕ) (later : List (List ℕ)) → nonces-to-come g before ≡ n ∷ later →
+      a ≡ Gave 0 (words n) (m .costs (length ad) (length message) .seal) (m .frame (g .cipher) (g .key) n ad message .0 ∷ m .frame (g .cipher) (g .key) n ad message .1 ∷ [])
   pub never-early : (before : List Event) (c : Call) (a : Reply) → Came es before c a → number-told a ≡ number-of NoNonce → nonces-to-come g before ≡ []
 
 -- Opens exactly the right frames: where sizes are lawful and the allowance is enough, a frame is opened exactly when some message
 -- seals to it under the post's key; that message is written, and no other seals to the same frame. Any other frame is answered 13, with zeros.
 pub record Opens-exactly-the-right-frames (m : Scheme) (g : Making) (es : List Event) : Type 0 where
   pub right : (before : List Event) (nonce ad text tag out : List ℕ) (a : Reply) → Came es before (Open nonce ad text tag out) a → Allowed m g before (Open nonce ad text tag out) →
-    (message : List ℕ) → Seals-to m (g .cipher) (g .key) nonce ad message text tag → a ≡ Gave 0 (0, 0) (m .costs (length ad) (length text) .right) (message ∷ [])
+      (message : List ℕ) → Seals-to m (g .cipher) (g .key) nonce ad message text tag → a ≡ Gave 0 (0, 0) (m .costs (length ad) (length text) .right) (message ∷ [])
   pub wrong : (before : List Event) (nonce ad text tag out : List ℕ) (a : Reply) → Came es before (Open nonce ad text tag out) a → Allowed m g before (Open nonce ad text tag out) →
-    (Right m (g .cipher) (g .key) nonce ad text tag → ⊥) → a ≡ Gave (number-of WrongFrame) (0, 0) (m .costs (length ad) (length text) .wrong) (zeros out ∷ [])
+      (Right m (g .cipher) (g .key) nonce ad text tag → ⊥) → a ≡ Gave (number-of WrongFrame) (0, 0) (m .costs (length ad) (length text) .wrong) (zeros out ∷ [])
   pub only-right : (before : List Event) (nonce ad text tag out : List ℕ) (a : Reply) → Came es before (Open nonce ad text tag out) a → number-told a ≡ 0 →
-    Right m (g .cipher) (g .key) nonce ad text tag
+      Right m (g .cipher) (g .key) nonce ad text tag
   pub one-message : (nonce ad text tag one two : List ℕ) → Seals-to m (g .cipher) (g .key) nonce ad one text tag → Seals-to m (g .cipher) (g .key) nonce ad two text tag → one ≡ two
 
 -- Numbers, costs, readings: every answer fits its call by the questions in their order and by the history. A reading tells what the making gave
@@ -57,7 +57,7 @@ pub record Opens-exactly-the-right-frames (m : Scheme) (g : Making) (es : List E
 pub record Numbers-costs-readings (m : Scheme) (g : Making) (es : List Event) : Type 0 where
   pub each : (before : List Event) (c : Call) (a : Reply) → Came es before c a → Fits m (standing g before) c a
   pub readings : (before : List Event) (a : Reply) → Came es before Read a →
-    a ≡ Told (g .allowance - costs-told before) (how-many taken-seal before) (how-many taken-open before) (how-many wrong-open before)
+      a ≡ Told (g .allowance - costs-told before) (how-many taken-seal before) (how-many taken-open before) (how-many wrong-open before)
   pub refusals : (before : List Event) (c : Call) (a : Reply) → Came es before c a → number-told a ≢ 0 → a ≡ Gave (number-told a) (0, 0) (cost-told a) (map zeros (places c))
   pub free : (before : List Event) (c : Call) (a : Reply) → Came es before c a → number-told a ≢ 0 → number-told a ≢ number-of WrongFrame → cost-told a ≡ 0
   pub within : costs-told es ≤ g .allowance
@@ -111,7 +111,7 @@ Unrefused m g before c = first-no (questions m (standing g before) c) ≡ None
 pub record Alike (m : Scheme) (g h : Making) (es ds : List Event) : Type 0 where
   pub sizes : Each Asked-alike es ds
   pub verdicts : (before : List Event) (c : Call) (a : Reply) (before′ : List Event) (d : Call) (b : Reply) → Came es before c a → Came ds before′ d b → length before ≡ length before′ →
-    Unrefused m g before c → Unrefused m h before′ d → (Verdict m g c ↔ Verdict m h d)
+      Unrefused m g before c → Unrefused m h before′ d → (Verdict m g c ↔ Verdict m h d)
 
 -- Equal number, nonce, cost and reading, and equal bytes in the output places of a refusal.
 abbrev pub Same-outside : Reply → Reply → Type 0

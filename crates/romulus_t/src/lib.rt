@@ -10,7 +10,6 @@ ghost use Rattle.bytes.specs.Block.{zero-block};
 ghost use Rattle.cipher.specs.Cipher.{Called, enciphered};
 ghost use Rattle.romulus_h.specs.Hash.{digest-of, hash-calls};
 ghost use Rattle.romulus_t.specs.ModeT.{message-blocks, padded-blocks, tag-input, ciphertext-of, tag-of, tag-cost, t-scheme};
-ghost use Rattle.romulus_t.specs.Examples.{Examples};
 use bytes::counter_bytes;
 use bytes::equal;
 use bytes::step;
@@ -220,8 +219,3 @@ pub impl Mode for RomulusT as RomulusTMode {
         right
     }
 }
-
-/// The worked examples hold of the definitions. The theorem stands in the contract; the call does nothing.
-pub fn examples_hold()
-    ensures { λ _. ⌜ Examples ⌝ }
-{}

@@ -39,7 +39,7 @@ one-more m s before now i t u d y up h l st same =
     let gn : map given (take (i + 1) (set now i y)) ≡ map given (take i now) ++ (given y ∷ []) = ap (λ (t : List Turn). map given t) e₄ ∙ map-append given (take i now) (y ∷ []) in
     let ll : length (take i before) ≡ length (take i now) = length-take i before ∙ (ap (λ (n : ℕ). min i n) (sym l) ∙ sym (length-take i now)) in
     let e₅ : transcript (take (i + 1) before) (take (i + 1) (set now i y)) ≡ transcript (take i before) (take i now) ++ (event (asked x) (answered y) ∷ []) =
-          ap₂ (λ (a b : List Turn). transcript a b) e₃ e₄ ∙ transcript-push (take i before) (take i now) x y ll in
+    ap₂ (λ (a b : List Turn). transcript a b) e₃ e₄ ∙ transcript-push (take i before) (take i now) x y ll in
     record {
       within = omega arith;
       served = subst (λ (es : List Event). Run m s es u) (sym e₅) (run-push m s (transcript (take i before) (take i now)) t u (asked x) (answered y) (up .served) st);

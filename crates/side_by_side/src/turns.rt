@@ -14,8 +14,19 @@ use post::Reading;
 /// A call of a post, with buffers of its own.
 #[derive(Drop)]
 pub enum Request {
-    Seal { ad: Vec<u8>, message: Vec<u8>, out: Vec<u8>, tag: Vec<u8> },
-    Open { nonce: Vec<u8>, ad: Vec<u8>, text: Vec<u8>, tag: Vec<u8>, out: Vec<u8> },
+    Seal {
+        ad: Vec<u8>,
+        message: Vec<u8>,
+        out: Vec<u8>,
+        tag: Vec<u8>,
+    },
+    Open {
+        nonce: Vec<u8>,
+        ad: Vec<u8>,
+        text: Vec<u8>,
+        tag: Vec<u8>,
+        out: Vec<u8>,
+    },
     ReadOut,
 }
 
@@ -38,7 +49,15 @@ impl Turn {
     pub fn new(request: Request) -> Turn
         ensures { λ r. ⌜ r ≡ unserved request ⌝ }
     {
-        Turn { request, answer: Answer::Reading(Reading { left: 0, sealed: 0, opened: 0, wrong: 0 }) }
+        Turn {
+            request,
+            answer: Answer::Reading(Reading {
+                left: 0,
+                sealed: 0,
+                opened: 0,
+                wrong: 0,
+            }),
+        }
     }
 }
 
@@ -49,8 +68,30 @@ pub fn handle<M: Mode, C: Cipher, S: NonceSource>(post: &mut Post<M, C, S>, turn
     ensures mode { λ _. ⌜ now (post .exit) .mode ≡ now (post .entry) .mode ⌝ }
 {
     let answer = match &mut turn.request {
-        Request::Seal { ad, message, out, tag } => Answer::Outcome(post.seal(ad.as_slice(), message.as_slice(), out.as_mut_slice(), tag.as_mut_slice())),
-        Request::Open { nonce, ad, text, tag, out } => Answer::Outcome(post.open(nonce.as_slice(), ad.as_slice(), text.as_slice(), tag.as_slice(), out.as_mut_slice())),
+        Request::Seal {
+            ad,
+            message,
+            out,
+            tag,
+        } => Answer::Outcome(post.seal(
+            ad.as_slice(),
+            message.as_slice(),
+            out.as_mut_slice(),
+            tag.as_mut_slice(),
+        )),
+        Request::Open {
+            nonce,
+            ad,
+            text,
+            tag,
+            out,
+        } => Answer::Outcome(post.open(
+            nonce.as_slice(),
+            ad.as_slice(),
+            text.as_slice(),
+            tag.as_slice(),
+            out.as_mut_slice(),
+        )),
         Request::ReadOut => Answer::Reading(post.read_out()),
     };
     turn.answer = answer;

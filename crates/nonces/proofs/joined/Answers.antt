@@ -1,14 +1,26 @@
-use mathlib.Core.Path.{refl, sym, ap, _∙_}
-use mathlib.Core.List.{List, map, _++_}
-use lib.ListN.{getD}
-use Rattle.std.specs.Iters.{counting}
-use Rattle.std.proofs.shelf.Counted.{fill-by-all}
+use mathlib.Core.Path.{_≡_, refl, ap₂, _∙_}
+use mathlib.Core.List.{List, [], _∷_, _++_}
+use Prim.Native.Nat.{ℕ, _≤_}
+use native.Mathlib.Omega.{arith}
+use borrow.Rule.Slice.PartMut.{putMid}
+use lib.ListN.{length}
+use Rattle.std.proofs.shelf.Lists.{take-at, drop-at, append-nil, length-append}
 use Rattle.nonces.proofs.joined.Needs as need
+
+-- the second half
+abbrev zeros : List ℕ
+zeros = 0 ∷ 0 ∷ 0 ∷ 0 ∷ 0 ∷ 0 ∷ 0 ∷ 0 ∷ []
+
+room : (x : List ℕ) → length x ≡ 8 → 16 ≤ length (x ++ zeros)
+room x l = omega (arith, length-append x zeros)
+
+put : (x y : List ℕ) → length x ≡ 8 → putMid 8 8 (x ++ zeros) y ≡ x ++ y
+put x y l = rw (take-at x zeros 8 l, drop-at x zeros 8 l, append-nil y)
+
+pub part-r-end-2 : need.part-r-end-2
+part-r-end-2 c = room (c .copy-from-slice .last .self) (c .copy-from-slice .ensures .len)
 
 pub returns : need.returns
 returns c =
-    let a = c .args .a .now in
-    let b = c .args .b .now in
-    let ea = fill-by-all (λ i. getD a i 0) a 8 0 (c .told-a) (λ k h. refl) in
-    let eb = fill-by-all (λ i. getD b i 0) b 8 0 (c .told-b) (λ k h. refl) in
-    sym (ap (λ x. x ++ b) ea ∙ ap (λ x. map (λ i. getD a i 0) (counting 0 8) ++ x) eb)
+    put (c .copy-from-slice .last .self) (c .copy-from-slice-2 .last .self) (c .copy-from-slice .ensures .len)
+    ∙ ap₂ (λ (x y : List ℕ). x ++ y) (c .copy-from-slice .ensures .after) (c .copy-from-slice-2 .ensures .after)

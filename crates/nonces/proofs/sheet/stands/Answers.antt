@@ -20,7 +20,8 @@ pub loop-left-again : need.loop-left-again
 loop-left-again c =
     let two : 2 ≤ length (c .loop-left .left .now) = search needs in
     let other : sameBytes (big-endian (c .args .high) ++ big-endian (c .args .low)) (first (c .loop-left .left .now)) ≡ false =
-        elim (c .else-high-h .came)
-          [ else-high-h·by·then-high-h·else-low-l w ↦ low-differs (c .args .high) (c .args .low) _ _ (omega arith) (omega arith) (w .if-low-l .left)
-          | else-high-h·by·else-high-h w ↦ high-differs (c .args .high) (c .args .low) _ _ (omega arith) (omega arith) (w .if-high-h .left) ] in
+    elim (c .else-high-h .came) [
+      | else-high-h·by·then-high-h·else-low-l w ↦ low-differs (c .args .high) (c .args .low) _ _ (omega arith) (omega arith) (w .if-low-l .left)
+      | else-high-h·by·else-high-h w ↦ high-differs (c .args .high) (c .args .low) _ _ (omega arith) (omega arith) (w .if-high-h .left)
+    ] in
     stands-more (big-endian (c .args .high) ++ big-endian (c .args .low)) (c .loop-left .left .now) two other ∙ c .loop-left .inv

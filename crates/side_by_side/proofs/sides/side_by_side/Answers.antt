@@ -24,17 +24,17 @@ returns-in-Ok-new g c =
     let b : Run m (fresh y) ds u = whole-run m y _ (transcript (c .args .other-turns .now) (c .serve-in-Ok-new .last .turns)) u (told (c .retire-two .result .reading)) (c .in-Ok-new .ensures tt .stands) (c .serve-in-Ok-new .ensures .served) (c .retire-two .ensures .reading) in
     record {
       promised =
-        record {
-          first-made = c .in-Ok .ensures tt .asked;
-          second-made = c .in-Ok-new .ensures tt .asked;
-          first =
-            handed-on (g .C·Cipher .answer) (g .C·Cipher .count) (g .S·NonceSource .pending) m x es _ _ _ _ (c .retire-one .ensures .cipher) (c .retire-one .ensures .source)
-            (promises m ok x (g .S·NonceSource .proper (c .args .one .source)) es t a);
-          second =
-            handed-on (g .D·Cipher .answer) (g .D·Cipher .count) (g .R·NonceSource .pending) m y ds _ _ _ _ (c .retire-two .ensures .cipher) (c .retire-two .ensures .source)
-            (promises m ok y (g .R·NonceSource .proper (c .args .two .source)) ds u b);
-          outside-sees-only-sizes-and-verdicts = outside m x y es ds t u a b;
-        };
+          record {
+            first-made = c .in-Ok .ensures tt .asked;
+            second-made = c .in-Ok-new .ensures tt .asked;
+            first =
+                handed-on (g .C·Cipher .answer) (g .C·Cipher .count) (g .S·NonceSource .pending) m x es _ _ _ _ (c .retire-one .ensures .cipher) (c .retire-one .ensures .source)
+                (promises m ok x (g .S·NonceSource .proper (c .args .one .source)) es t a);
+            second =
+                handed-on (g .D·Cipher .answer) (g .D·Cipher .count) (g .R·NonceSource .pending) m y ds _ _ _ _ (c .retire-two .ensures .cipher) (c .retire-two .ensures .source)
+                (promises m ok y (g .R·NonceSource .proper (c .args .two .source)) ds u b);
+            outside-sees-only-sizes-and-verdicts = outside m x y es ds t u a b;
+          };
       inputs = (c .serve .ensures .kept, c .serve-in-Ok-new .ensures .kept);
       parts = (c .retire-one .ensures .mode ∙ c .serve .ensures .mode ∙ c .in-Ok .ensures tt .mode-is, c .retire-two .ensures .mode ∙ c .serve-in-Ok-new .ensures .mode ∙ c .in-Ok-new .ensures tt .mode-is);
     }

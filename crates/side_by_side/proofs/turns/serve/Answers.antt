@@ -13,9 +13,10 @@ use Rattle.side_by_side.proofs.Served.{one-more}
 use Rattle.side_by_side.proofs.turns.serve.Needs as need
 
 pub loop-i-again : need.loop-i-again
-loop-i-again g c =
-    ( c .handle .ensures .mode ∙ c .loop-i .inv .0
-    , one-more (g .M·Mode .scheme) _ (c .args .turns .now) (c .loop-i .turns) (c .loop-i .i) _ _ (c .index-turns-i .result) (c .handle .last .turn) (c .loop-i .inv .1) (c .loop-i-test .taken) (c .loop-i .kept .turns) (c .handle .ensures .step) (c .handle .ensures .kept))
+loop-i-again g c = (
+  c .handle .ensures .mode ∙ c .loop-i .inv .0,
+  one-more (g .M·Mode .scheme) _ (c .args .turns .now) (c .loop-i .turns) (c .loop-i .i) _ _ (c .index-turns-i .result) (c .handle .last .turn) (c .loop-i .inv .1) (c .loop-i-test .taken) (c .loop-i .kept .turns) (c .handle .ensures .step) (c .handle .ensures .kept),
+)
 
 pub returns : need.returns
 returns g c =

@@ -1,0 +1,4 @@
+pub mod Told
+pub mod Kept
+pub mod Carry
+pub mod Promised
