@@ -126,7 +126,8 @@ static void time_all(void)
             for (int k = 0; k < count; k++) {
                 int i = (k + round + count) % count;
                 if (round < 0) {
-                    double once = turn(test->of + i, test->len, 1) * (double)test->of[i].calls;
+                    turn(test->of + i, test->len, 1);
+                    double once = turn(test->of + i, test->len, 4) * (double)test->of[i].calls;
                     times[t][i] = once > LEAST_TURN ? 1 : (size_t)(LEAST_TURN / once) + 1;
                     least[t][i] = 1e18;
                 } else if (times[t][i] > 1 || round % SELDOM == 0) {

@@ -25,7 +25,7 @@ pub struct Expected {
 }
 
 impl Books {
-    pub fn new(allowance: u64, nonces: u64) -> Books {
+    pub(crate) fn new(allowance: u64, nonces: u64) -> Books {
         Books { left: allowance, sealed: 0, opened: 0, wrong: 0, nonces, readings: 0, answers: [0; 16], differences: 0 }
     }
 
@@ -40,7 +40,7 @@ impl Books {
     }
 
     /// A seal: what it should answer, and what it did.
-    pub fn seal(&mut self, call: Expected, outcome: Outcome) {
+    pub(crate) fn seal(&mut self, call: Expected, outcome: Outcome) {
         let expected = if call.sizes != 0 {
             call.sizes
         } else if call.costs.seal > self.left {
@@ -59,7 +59,7 @@ impl Books {
     }
 
     /// An opening of a frame that is right or damaged.
-    pub fn open(&mut self, call: Expected, right: bool, outcome: Outcome) {
+    pub(crate) fn open(&mut self, call: Expected, right: bool, outcome: Outcome) {
         let (expected, cost) = if call.sizes != 0 {
             (call.sizes, 0)
         } else if call.costs.right > self.left {
@@ -79,14 +79,14 @@ impl Books {
     }
 
     /// Something else that should hold of an answer, as zeros after a refusal.
-    pub fn expect(&mut self, holds: bool) {
+    pub(crate) fn expect(&mut self, holds: bool) {
         if !holds {
             self.differences = self.differences.wrapping_add(1);
         }
     }
 
     /// A reading, against the books.
-    pub fn compare(&mut self, reading: Reading) {
+    pub(crate) fn compare(&mut self, reading: Reading) {
         self.readings = self.readings.wrapping_add(1);
         let same = reading.left == self.left && reading.sealed == self.sealed && reading.opened == self.opened && reading.wrong == self.wrong;
         self.expect(same);

@@ -95,13 +95,13 @@ fn pick_sizes(generator: &mut Generator, ad: usize, text: usize) -> Sizes {
 }
 
 impl<M: Mode + Copy> Bench<M> {
-    pub fn new(heap: Global, mode: M, books: Books, generator: Generator) -> Result<Bench<M>, AllocError> {
+    pub(crate) fn new(heap: Global, mode: M, books: Books, generator: Generator) -> Result<Bench<M>, AllocError> {
         let kept = Kept { nonce: [0; 16], ad: vec![in heap]?, message: vec![in heap]?, text: vec![in heap]?, tag: vec![in heap; 0; 16]? };
         Ok(Bench { mode, books, generator, kept })
     }
 
     /// One call, of a kind that the generator picks.
-    pub fn call<C: Cipher, S: NonceSource>(&mut self, heap: Global, post: &mut Post<M, C, S>) -> Result<(), AllocError> {
+    pub(crate) fn call<C: Cipher, S: NonceSource>(&mut self, heap: Global, post: &mut Post<M, C, S>) -> Result<(), AllocError> {
         match self.generator.below(8) {
             0 => {
                 self.books.compare(post.read_out());

@@ -28,7 +28,7 @@ pub struct Case {
 }
 
 impl Case {
-    pub fn new(heap: Global, ad: usize, len: usize) -> Result<Case, AllocError> {
+    pub(crate) fn new(heap: Global, ad: usize, len: usize) -> Result<Case, AllocError> {
         let nonce = pattern(heap, 16, 1, ad.wrapping_add(len.wrapping_mul(3)))?;
         let data = pattern(heap, ad, 7, ad)?;
         let message = pattern(heap, len, 11, len.wrapping_add(5))?;
@@ -67,7 +67,7 @@ fn turn_bit(text: &mut [u8]) -> bool {
 
 impl Sealed {
     /// Seals a case, and counts the cipher's calls against the told cost.
-    pub fn seal<M: Mode>(heap: Global, mode: &M, cipher: &mut AnyCipher, case: &Case, totals: &mut Totals) -> Result<Sealed, AllocError> {
+    pub(crate) fn seal<M: Mode>(heap: Global, mode: &M, cipher: &mut AnyCipher, case: &Case, totals: &mut Totals) -> Result<Sealed, AllocError> {
         let nonce = case.nonce.clone()?;
         let ad = case.ad.clone()?;
         let mut text = vec![in heap; 0; case.message.len()]?;
@@ -80,7 +80,7 @@ impl Sealed {
     }
 
     /// Opens the frame: the number answered, and what is then in the output place.
-    pub fn open<M: Mode>(&self, heap: Global, mode: &M, cipher: &mut AnyCipher, totals: &mut Totals) -> Result<(u8, Vec<u8>), AllocError> {
+    pub(crate) fn open<M: Mode>(&self, heap: Global, mode: &M, cipher: &mut AnyCipher, totals: &mut Totals) -> Result<(u8, Vec<u8>), AllocError> {
         let mut out = vec![in heap; 0; self.text.len()]?;
         let costs = mode.costs(self.ad.len(), self.text.len());
         let before = cipher.calls();
@@ -91,7 +91,7 @@ impl Sealed {
     }
 
     /// The frame with one bit of a part turned; none where the part is empty.
-    pub fn damaged(&self, heap: Global, part: Part) -> Result<Option<Sealed>, AllocError> {
+    pub(crate) fn damaged(&self, heap: Global, part: Part) -> Result<Option<Sealed>, AllocError> {
         let _ = heap;
         let mut copy = Sealed { nonce: self.nonce.clone()?, ad: self.ad.clone()?, text: self.text.clone()?, tag: self.tag.clone()? };
         let turned = match part {

@@ -22,24 +22,24 @@ pub struct Totals {
 }
 
 impl Totals {
-    pub fn new() -> Totals {
+    pub(crate) fn new() -> Totals {
         Totals { frames: 0, right: 0, damaged: 0, refused: 0, calls: 0, strays: 0, digest: [0; 32] }
     }
 
     /// An undamaged frame, and whether its opening gave the message back.
-    pub fn count_right(&mut self, right: bool) {
+    pub(crate) fn count_right(&mut self, right: bool) {
         self.frames = self.frames.wrapping_add(1);
         self.right = self.right.wrapping_add(right as u64);
     }
 
     /// A damaged frame, and whether it was refused with 13.
-    pub fn count_damaged(&mut self, refused: bool) {
+    pub(crate) fn count_damaged(&mut self, refused: bool) {
         self.damaged = self.damaged.wrapping_add(1);
         self.refused = self.refused.wrapping_add(refused as u64);
     }
 
     /// How far the cipher's count rose, what the mode told before, and what the call answered.
-    pub fn count_calls(&mut self, rose: u64, told: u64, answered: u64) {
+    pub(crate) fn count_calls(&mut self, rose: u64, told: u64, answered: u64) {
         self.calls = self.calls.wrapping_add(rose);
         if rose != told || rose != answered {
             self.strays = self.strays.wrapping_add(1);
@@ -47,7 +47,7 @@ impl Totals {
     }
 
     /// The digest goes on to that of itself, the ciphertext and the tag.
-    pub fn chain(&mut self, heap: Global, sealed: &Sealed) -> Result<(), AllocError> {
+    pub(crate) fn chain(&mut self, heap: Global, sealed: &Sealed) -> Result<(), AllocError> {
         let mut input = self.digest.to_vec(heap)?;
         input.extend_from_slice(sealed.text.as_slice())?;
         input.extend_from_slice(sealed.tag.as_slice())?;

@@ -9,7 +9,7 @@ use post::Post;
 const KEY: [u8; 16] = [0; 16];
 
 /// The numbers that two seals of empty data and message answer, at an allowance and a number of nonces.
-pub fn two_empty_seals<M: Mode + Drop>(mode: M, allowance: u64, nonces: u64) -> Option<(u8, u8)> {
+pub(crate) fn two_empty_seals<M: Mode + Drop>(mode: M, allowance: u64, nonces: u64) -> Option<(u8, u8)> {
     let source = Counting::new(b"cases 01", 0, nonces).ok()?;
     match Post::new(mode, StandIn::new(), source, &KEY, allowance) {
         Err(_) => None,
@@ -24,7 +24,7 @@ pub fn two_empty_seals<M: Mode + Drop>(mode: M, allowance: u64, nonces: u64) -> 
 }
 
 /// What is left of an allowance of 100 after an opening of a wrong frame with 16 bytes of text, and the number it answers.
-pub fn after_wrong<M: Mode + Drop>(mode: M) -> Option<(u8, u64)> {
+pub(crate) fn after_wrong<M: Mode + Drop>(mode: M) -> Option<(u8, u64)> {
     let source = Counting::new(b"cases 01", 0, 1).ok()?;
     match Post::new(mode, StandIn::new(), source, &KEY, 100) {
         Err(_) => None,

@@ -16,7 +16,7 @@ pub struct Vector {
 
 impl Vector {
     /// Whether the cipher gives the published answer.
-    pub fn holds(&self) -> bool {
+    pub(crate) fn holds(&self) -> bool {
         let mut cipher = Skinny::new(self.rounds);
         let answer = cipher.encrypt(&self.tweakey, &self.block);
         bytes::equal(&answer, &self.answer)
@@ -27,7 +27,7 @@ const TWEAKEY: [u8; 48] = [0xdf, 0x88, 0x95, 0x48, 0xcf, 0xc7, 0xea, 0x52, 0xd2,
 const BLOCK: [u8; 16] = [0xa3, 0x99, 0x4b, 0x66, 0xad, 0x85, 0xa3, 0x45, 0x9f, 0x44, 0xe9, 0x2b, 0x08, 0xf5, 0x50, 0xcb];
 
 /// Skinny-128-384+ and Skinny-128-384 on one tweakey and block; and Skinny-128-128, which is the 40-round cipher with TK2 = TK3 = 0.
-pub fn published() -> [Vector; 3] {
+pub(crate) fn published() -> [Vector; 3] {
     [
         Vector {
             name: "Skinny-128-384+, 40 rounds",

@@ -36,7 +36,7 @@ pub const CASES: [Sizes; 13] = [
 ];
 
 /// Whether a place holds only zeros.
-pub fn zeros(place: &[u8]) -> bool {
+pub(crate) fn zeros(place: &[u8]) -> bool {
     for b in place {
         if *b != 0 {
             return false;
@@ -46,7 +46,7 @@ pub fn zeros(place: &[u8]) -> bool {
 }
 
 /// Whether a seal and an opening of these sizes answer the number, and a refusal leaves zeros and costs nothing.
-pub fn refused_so<M: Mode, C: Cipher>(heap: Global, mode: &M, cipher: &mut C, sizes: &Sizes) -> Result<bool, AllocError> {
+pub(crate) fn refused_so<M: Mode, C: Cipher>(heap: Global, mode: &M, cipher: &mut C, sizes: &Sizes) -> Result<bool, AllocError> {
     let key = vec![in heap; 7; sizes.key]?;
     let nonce = vec![in heap; 9; sizes.nonce]?;
     let ad = vec![in heap; 1; sizes.ad]?;

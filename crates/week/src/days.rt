@@ -34,7 +34,7 @@ fn seal<M: Mode>(rt: &LibcRuntime, mode: &M, rounds: Rounds, nonce: [u8; 16], la
 }
 
 /// Opens a frame with the key; what is in the output place comes back, and whether the frame was right.
-pub fn open<M: Mode>(rt: &LibcRuntime, mode: &M, rounds: Rounds, frame: &Frame) -> Result<(Vec<u8>, bool), AnyError> {
+pub(crate) fn open<M: Mode>(rt: &LibcRuntime, mode: &M, rounds: Rounds, frame: &Frame) -> Result<(Vec<u8>, bool), AnyError> {
     let mut out = vec![in rt.alloc(); 0; frame.text.len()]?;
     let mut cipher = Skinny::new(rounds);
     let opened = mode.open(&mut cipher, &KEY, &frame.nonce, frame.label.as_slice(), frame.text.as_slice(), &frame.tag, out.as_mut_slice());
@@ -45,7 +45,7 @@ pub fn open<M: Mode>(rt: &LibcRuntime, mode: &M, rounds: Rounds, frame: &Frame) 
 }
 
 /// The settings in an opened record.
-pub fn settings_in(record: &[u8]) -> Result<Settings, AnyError> {
+pub(crate) fn settings_in(record: &[u8]) -> Result<Settings, AnyError> {
     match std::str::from_utf8(record) {
         Ok(text) => match read_record(text) {
             Some(settings) => Ok(settings),
@@ -56,7 +56,7 @@ pub fn settings_in(record: &[u8]) -> Result<Settings, AnyError> {
 }
 
 /// Prints a frame's nonce, ciphertext and tag.
-pub fn print_frame(rt: &LibcRuntime, frame: &Frame) -> Result<(), AnyError> {
+pub(crate) fn print_frame(rt: &LibcRuntime, frame: &Frame) -> Result<(), AnyError> {
     let nonce = Hex(&frame.nonce);
     let text = Hex(frame.text.as_slice());
     let tag = Hex(&frame.tag);
@@ -67,7 +67,7 @@ pub fn print_frame(rt: &LibcRuntime, frame: &Frame) -> Result<(), AnyError> {
 }
 
 /// The counter seals the record with Romulus-N; serial number and job are the label.
-pub fn monday(rt: &LibcRuntime, rounds: Rounds, label: &str, nonce: [u8; 16], settings: &Settings) -> Result<Frame, AnyError> {
+pub(crate) fn monday(rt: &LibcRuntime, rounds: Rounds, label: &str, nonce: [u8; 16], settings: &Settings) -> Result<Frame, AnyError> {
     println!(rt, "Monday, at the counter: {label}")?;
     println!(rt, "  record: {settings}")?;
     let record = write_record(rt.alloc(), settings)?;
@@ -77,7 +77,7 @@ pub fn monday(rt: &LibcRuntime, rounds: Rounds, label: &str, nonce: [u8; 16], se
 }
 
 /// Anybody reads the label, without the key.
-pub fn tuesday(rt: &LibcRuntime, frame: &Frame) -> Result<(), AnyError> {
+pub(crate) fn tuesday(rt: &LibcRuntime, frame: &Frame) -> Result<(), AnyError> {
     let label = frame.label();
     println!(rt, "Tuesday, on the shelf, without the key:")?;
     println!(rt, "  the label reads: {label}")?;
@@ -85,7 +85,7 @@ pub fn tuesday(rt: &LibcRuntime, frame: &Frame) -> Result<(), AnyError> {
 }
 
 /// A copy goes into Romulus-M, where a nonce may repeat: the same copy gives the same frame, another record another frame.
-pub fn thursday(rt: &LibcRuntime, rounds: Rounds, frame: &Frame) -> Result<(), AnyError> {
+pub(crate) fn thursday(rt: &LibcRuntime, rounds: Rounds, frame: &Frame) -> Result<(), AnyError> {
     println!(rt, "Thursday, a copy for the drawer, under one nonce throughout:")?;
     let (record, _) = open(rt, &RomulusN, rounds, frame)?;
     let nonce = *b"drawer copy 0001";
@@ -100,7 +100,7 @@ pub fn thursday(rt: &LibcRuntime, rounds: Rounds, frame: &Frame) -> Result<(), A
 }
 
 /// The scanner is calibrated next to probes through Romulus-T, and the job sheet gets its digest.
-pub fn friday(rt: &LibcRuntime, rounds: Rounds, frame: &Frame) -> Result<(), AnyError> {
+pub(crate) fn friday(rt: &LibcRuntime, rounds: Rounds, frame: &Frame) -> Result<(), AnyError> {
     println!(rt, "Friday, calibration next to probes:")?;
     let (record, _) = open(rt, &RomulusN, rounds, frame)?;
     let calibrated = seal(rt, &RomulusT, rounds, *b"calibration 0001", frame.label.as_slice(), record.as_slice())?;
@@ -117,7 +117,7 @@ pub fn friday(rt: &LibcRuntime, rounds: Rounds, frame: &Frame) -> Result<(), Any
 }
 
 /// The frame is opened on the loading dock; one with a turned bit is refused.
-pub fn saturday(rt: &LibcRuntime, rounds: Rounds, mut frame: Frame) -> Result<(), AnyError> {
+pub(crate) fn saturday(rt: &LibcRuntime, rounds: Rounds, mut frame: Frame) -> Result<(), AnyError> {
     println!(rt, "Saturday, on the loading dock:")?;
     let (record, _) = open(rt, &RomulusN, rounds, &frame)?;
     let settings = settings_in(record.as_slice())?;

@@ -27,19 +27,19 @@ pub struct Frame {
 
 impl Frame {
     /// A frame with room for a text of `len` bytes, not sealed yet.
-    pub fn blank(heap: Global, nonce: [u8; 16], label: &[u8], len: usize) -> Result<Frame, AllocError> {
+    pub(crate) fn blank(heap: Global, nonce: [u8; 16], label: &[u8], len: usize) -> Result<Frame, AllocError> {
         let label = label.to_vec(heap)?;
         let text = vec![in heap; 0; len]?;
         Ok(Frame { nonce, label, text, tag: [0; 16] })
     }
 
     /// Whether two frames are the same, ciphertext and tag.
-    pub fn same(&self, other: &Frame) -> bool {
+    pub(crate) fn same(&self, other: &Frame) -> bool {
         self.text.as_slice() == other.text.as_slice() && bytes::equal(&self.tag, &other.tag)
     }
 
     /// The label, which anybody reads off the frame without a key.
-    pub fn label(&self) -> &str {
+    pub(crate) fn label(&self) -> &str {
         match std::str::from_utf8(self.label.as_slice()) {
             Ok(text) => text,
             Err(_) => "(no text)",

@@ -51,7 +51,7 @@ fn print_reading(rt: &LibcRuntime, reading: Reading) -> Result<(), AnyError> {
 }
 
 /// The bench opens Monday's record and moves the trigger time, and a post seals it again under a nonce of its own.
-pub fn wednesday(rt: &LibcRuntime, rounds: Rounds, frame: &Frame) -> Result<Frame, AnyError> {
+pub(crate) fn wednesday(rt: &LibcRuntime, rounds: Rounds, frame: &Frame) -> Result<Frame, AnyError> {
     println!(rt, "Wednesday, at the bench:")?;
     let (record, _) = open(rt, &RomulusN, rounds, frame)?;
     let was = settings_in(record.as_slice())?;
@@ -144,7 +144,7 @@ fn close<S: NonceSource + Drop, R: NonceSource + Drop>(rt: &LibcRuntime, source:
 }
 
 /// Two posts close the week side by side: one counts its nonces on 40 rounds, one reads them off a sheet on 56.
-pub fn close_the_week(rt: &LibcRuntime) -> Result<(), AnyError> {
+pub(crate) fn close_the_week(rt: &LibcRuntime) -> Result<(), AnyError> {
     println!(rt, "Closing the week, two posts side by side:")?;
     let entries = [0x626e_6368_2030_3739, 1, 0x626e_6368_2030_3739, 2];
     match Sheet::new(&entries) {

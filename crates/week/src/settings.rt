@@ -22,12 +22,12 @@ pub impl fmt::Display for Settings as SettingsDisplay {
 }
 
 /// The text of a record.
-pub fn write_record(heap: Global, settings: &Settings) -> Result<String, AllocError> {
+pub(crate) fn write_record(heap: Global, settings: &Settings) -> Result<String, AllocError> {
     format!(heap, "{settings}")
 }
 
 /// The settings that a record's text holds, if it is one.
-pub fn read_record(text: &str) -> Option<Settings> {
+pub(crate) fn read_record(text: &str) -> Option<Settings> {
     let mut trigger = None;
     let mut beep = None;
     let mut baud = None;
