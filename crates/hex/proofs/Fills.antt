@@ -9,7 +9,7 @@ use lib.Seq.{take-append-add}
 use Rattle.std.proofs.shelf.Lists.{take-all, take-append-le, take-take, take-more-set, length-take-le, append-nil}
 use Rattle.std.proofs.shelf.Tests.{cases-lt}
 use Rattle.hex.specs.declared.buffer.Buffer.{Buffer}
-use Rattle.hex.specs.Buffers.{held}
+use Rattle.hex.specs.Buffers.{contents}
 
 -- as many as there is room for
 pub take-room : (xs : List ℕ) (n room : ℕ) → n ≡ min (length xs) room → take n xs ≡ take room xs
@@ -32,12 +32,12 @@ take-again room xs ys =
     (λ h. ap (λ p. take room (p ++ ys)) (take-all room xs (omega arith)))
     (cases-lt room (length xs))
 
-pub held-fits : (b : Buffer) → length (held b) ≤ 8226
-held-fits b = omega (arith, length-take (b .len) (b .bytes), b .fits)
+pub contents-fit : (b : Buffer) → length (contents b) ≤ 8226
+contents-fit b = omega (arith, length-take (b .len) (b .bytes), b .fits)
 
 -- where nothing comes, nothing is cut
-pub held-alone : (b : Buffer) → held b ≡ take 8226 (held b ++ [])
-held-alone b = sym (ap (λ l. take 8226 l) (append-nil (held b)) ∙ take-all 8226 (held b) (held-fits b))
+pub contents-alone : (b : Buffer) → contents b ≡ take 8226 (contents b ++ [])
+contents-alone b = sym (ap (λ l. take 8226 l) (append-nil (contents b)) ∙ take-all 8226 (contents b) (contents-fit b))
 
 -- where there is room, all that comes is held
 pub pushed-whole : (room : ℕ) (was more : List ℕ) {now : List ℕ} → length was + length more ≤ room → now ≡ take room (was ++ more) → now ≡ was ++ more

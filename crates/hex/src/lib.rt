@@ -5,7 +5,7 @@ ghost use Prim.Native.Nat.{_<_};
 ghost use lib.ListN.{take};
 ghost use Rattle.std.specs.Options.{valueOr};
 ghost use Rattle.hex.specs.Digits.{digit-value, first-bad, line-check, digit-of, digits-of, Read-back};
-ghost use Rattle.hex.specs.Buffers.{held, Decoded};
+ghost use Rattle.hex.specs.Buffers.{contents, Decoded};
 pub mod buffer;
 pub mod fault;
 
@@ -88,7 +88,7 @@ fn small_digit(value: u8) -> u8
 /// Adds two small digits for each byte to a text, as many as there is room for. Read as a line, the digits spell the bytes again.
 pub fn encode(bytes: &[u8], text: &mut Buffer)
     ensures back { λ _. ⌜ Read-back (now (bytes .entry)) ⌝ }
-    ensures digits { λ _. ⌜ held (now (text .exit)) ≡ take 8226 (held (now (text .entry)) ++ digits-of (now (bytes .entry))) ⌝ }
+    ensures digits { λ _. ⌜ contents (now (text .exit)) ≡ take 8226 (contents (now (text .entry)) ++ digits-of (now (bytes .entry))) ⌝ }
 {
     for byte in bytes {
         text.push(small_digit(*byte / 16));

@@ -16,7 +16,7 @@ use Rattle.lines.specs.declared.frame.CipherName.{CipherName}
 use Rattle.lines.specs.declared.frame.Kind.{Kind}
 use Rattle.lines.specs.declared.frame.Kind.the-variants.{Key, Cipher, Seal, Open, Hash}
 use Rattle.lines.specs.Frames.{ad-length, ad-of, text-of, kind-of, Order, take-key, choose, seal, unseal, digest, fits, chosen, ordered, ordered-if, order-of}
-use Rattle.lines.specs.Sessions.{Small}
+use Rattle.lines.specs.Requests.{Small}
 
 never : {e : FrameFault} {o : Order} → _≡_ {A = Result Order FrameFault} (Err e) (Ok o) → ⊥
 never p = let z : _≡_ {A = ℕ} 0 1 = cc in omega arith

@@ -1,4 +1,4 @@
--- Requests: how the code holds the parts of a frame, and what it then asks for.
+-- How the code holds the parts of a frame, what it asks for, and the reply.
 use mathlib.Core.Path.{_≡_}
 use mathlib.Core.List.{List}
 use Prim.Native.Nat.{ℕ, _+_, _<_, _≤_}
@@ -7,7 +7,12 @@ use Rattle.std.specs.declared.option.Option.{Option}
 use Rattle.std.specs.declared.option.Option.the-variants.{Some, None}
 use Rattle.std.specs.declared.result.Result.{Result}
 use Rattle.std.specs.declared.result.Result.the-variants.{Ok, Err}
+use Rattle.refusals.specs.declared.Refusal.{Refusal}
+use Rattle.hex.specs.declared.buffer.Buffer.{Buffer}
 use Rattle.hex.specs.declared.fault.FrameFault.{FrameFault}
+use Rattle.hex.specs.declared.fault.Fault.{Fault}
+use Rattle.hex.specs.declared.fault.Fault.the-variants.{Mode}
+use Rattle.hex.specs.Buffers.{contents}
 use Rattle.lines.specs.declared.frame.Parts.{Parts}
 use Rattle.lines.specs.declared.frame.Sealed.{Sealed}
 use Rattle.lines.specs.declared.frame.Request.{Request}
@@ -49,3 +54,21 @@ meaning (code.Hash text) = digest (text .now)
 abbrev pub Read-as : Result Order FrameFault → Result Request FrameFault → Type 0
 Read-as asked (Ok request) = asked ≡ Ok (meaning request)
 Read-as asked (Err fault) = asked ≡ Err fault
+
+-- The order of a frame of at most 4,096 bytes.
+abbrev pub Small : Order → Type 0
+Small (take-key key) = Unit {0}
+Small (choose cipher) = Unit {0}
+Small (seal v key nonce ad message) = length ad + length message ≤ 4077
+Small (unseal v key nonce ad text tag) = length text ≤ 4096
+Small (digest text) = Unit {0}
+
+-- What a mode's call gives, as the reply to a line.
+abbrev pub mode-reply : Result Buffer Refusal → Result (List ℕ) Fault
+mode-reply (Ok b) = Ok (contents b)
+mode-reply (Err refusal) = Err (Mode refusal)
+
+-- A reply, as the code holds it.
+abbrev pub line-reply : Result Buffer Fault → Result (List ℕ) Fault
+line-reply (Ok b) = Ok (contents b)
+line-reply (Err fault) = Err fault

@@ -5,12 +5,9 @@ use Prim.Native.Nat.{ℕ, _/_, _%_}
 use lib.ListN.{length}
 use Rattle.std.specs.declared.result.Result.{Result}
 use Rattle.std.specs.declared.result.Result.the-variants.{Ok, Err}
-use Rattle.refusals.specs.declared.Refusal.{Refusal}
 use Rattle.refusals.specs.declared.Refusal.the-variants.{WrongFrame}
-use Rattle.hex.specs.declared.buffer.Buffer.{Buffer}
 use Rattle.hex.specs.declared.fault.Fault.{Fault}
 use Rattle.hex.specs.declared.fault.Fault.the-variants.{Mode}
-use Rattle.hex.specs.Buffers.{held}
 use Rattle.cipher.specs.Cipher.{Answer, stand-in}
 use Rattle.skinny.specs.Skinny.{skinny}
 use Rattle.mode.specs.Mode.{Scheme, Seals-to, Right}
@@ -47,11 +44,6 @@ length-bytes n = (n / 256 % 256) ∷ (n % 256) ∷ []
 -- A sealed frame: letter, nonce, the data's length, data, ciphertext, tag.
 unfoldable pub sealed-frame : Variant → (nonce ad : List ℕ) → (sealed : List ℕ × List ℕ) → List ℕ
 sealed-frame v nonce ad sealed = letter-of v ∷ (nonce ++ (length-bytes (length ad) ++ (ad ++ (sealed .0 ++ sealed .1))))
-
--- What a mode's call gives, as the reply to a line.
-abbrev pub mode-reply : Result Buffer Refusal → Result (List ℕ) Fault
-mode-reply (Ok b) = Ok (held b)
-mode-reply (Err refusal) = Err (Mode refusal)
 
 -- What the opening of a frame gives: the message that seals to it or, where there is none, the refusal.
 abbrev pub Opens : Scheme → Answer → (key nonce ad text tag : List ℕ) → Result (List ℕ) Fault → Type 0

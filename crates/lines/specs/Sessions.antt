@@ -1,20 +1,17 @@
 -- A session: what an order gives, and what is held after it.
 use mathlib.Core.Path.{_≡_}
 use mathlib.Core.List.{List, [], _∷_}
-use Prim.Native.Nat.{ℕ, _+_, _≤_}
-use lib.ListN.{length}
+use Prim.Native.Nat.{ℕ}
 use Rattle.std.specs.declared.option.Option.{Option}
 use Rattle.std.specs.declared.option.Option.the-variants.{Some, None}
 use Rattle.std.specs.declared.result.Result.{Result}
 use Rattle.std.specs.declared.result.Result.the-variants.{Ok, Err}
-use Rattle.hex.specs.declared.buffer.Buffer.{Buffer}
 use Rattle.hex.specs.declared.fault.LineFault.{LineFault}
 use Rattle.hex.specs.declared.fault.FrameFault.{FrameFault}
 use Rattle.hex.specs.declared.fault.Fault.{Fault}
 use Rattle.hex.specs.declared.fault.Fault.the-variants.{Line, Frame}
 use Rattle.hex.specs.Digits.{line-check, bytes-of, digits-of, Read-back}
 use Rattle.hex.specs.Faults.{report-of}
-use Rattle.hex.specs.Buffers.{held}
 use Rattle.cipher.specs.Cipher.{Answer}
 use Rattle.romulus_h.specs.Hash.{digest-of}
 use Rattle.lines.specs.declared.session.Held.{Held}
@@ -38,14 +35,6 @@ after s (seal v key nonce ad message) = s
 after s (unseal v key nonce ad text tag) = s
 after s (digest text) = s
 
--- The order of a frame of at most 4,096 bytes.
-abbrev pub Small : Order → Type 0
-Small (take-key key) = Unit {0}
-Small (choose cipher) = Unit {0}
-Small (seal v key nonce ad message) = length ad + length message ≤ 4077
-Small (unseal v key nonce ad text tag) = length text ≤ 4096
-Small (digest text) = Unit {0}
-
 -- What a line orders of a session: the line's fault, the frame's, or the order.
 abbrev pub frame-order : Result Order FrameFault → Result Order Fault
 frame-order (Err fault) = Err (Frame fault)
@@ -67,11 +56,6 @@ Tells f (Ok order) r = Gives f order r
 abbrev pub held-after : Held → Result Order Fault → Held
 held-after s (Err fault) = s
 held-after s (Ok order) = after s order
-
--- A reply, as the code holds it.
-abbrev pub line-reply : Result Buffer Fault → Result (List ℕ) Fault
-line-reply (Ok b) = Ok (held b)
-line-reply (Err fault) = Err fault
 
 -- An answer line: 00 and the result's bytes in small digits, or the report of the fault.
 abbrev pub written : Result (List ℕ) Fault → List ℕ

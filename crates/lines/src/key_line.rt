@@ -36,6 +36,6 @@ impl<'a> KeyLine<'a> {
     pub fn characters(&self) -> &[u8]
         ensures { λ r. ⌜ now r ≡ now (now (self .entry) .0) ⌝ }
     {
-        self.0
+        &self.0[..]
     }
 }

@@ -6,8 +6,9 @@ ghost use Rattle.std.specs.Vec.{made};
 ghost use Rattle.mode.specs.Mode.{Seals-to, Opened};
 ghost use Rattle.romulus_h.specs.Hash.{digest-of};
 ghost use Rattle.any_cipher.specs.AnyCipher.{any-answer};
-ghost use Rattle.hex.specs.Buffers.{held};
-ghost use Rattle.lines.specs.Services.{scheme-of, letter-of, cipher-answer, length-bytes, sealed-frame, mode-reply, Opens};
+ghost use Rattle.hex.specs.Buffers.{contents};
+ghost use Rattle.lines.specs.Requests.{mode-reply};
+ghost use Rattle.lines.specs.Services.{scheme-of, letter-of, cipher-answer, length-bytes, sealed-frame, Opens};
 use crate::frame::CipherName;
 use crate::frame::Parts;
 use crate::frame::Sealed;
@@ -85,8 +86,8 @@ fn length_bytes(len: usize) -> [u8; 2]
 // A sealed frame, put together.
 fn put_together(variant: Variant, nonce: &[u8; 16], ad: &[u8], text: &[u8], tag: &[u8; 16]) -> Buffer
     requires { ⌜ length (now ad) + length (now text) ≤ 4077 ⌝ }
-    ensures frame { λ r. ⌜ held r ≡ sealed-frame variant (now (nonce .entry)) (now (ad .entry)) (now (text .entry), now (tag .entry)) ⌝ }
-    ensures short { λ r. ⌜ length (held r) ≤ 4112 ⌝ }
+    ensures frame { λ r. ⌜ contents r ≡ sealed-frame variant (now (nonce .entry)) (now (ad .entry)) (now (text .entry), now (tag .entry)) ⌝ }
+    ensures short { λ r. ⌜ length (contents r) ≤ 4112 ⌝ }
 {
     let mut frame = Buffer::new();
     frame.push(variant.letter());
@@ -101,8 +102,8 @@ fn put_together(variant: Variant, nonce: &[u8; 16], ad: &[u8], text: &[u8], tag:
 /// The frame that a message seals to.
 pub(crate) fn seal_frame<C: Cipher>(cipher: &mut C, variant: Variant, key: &[u8; 16], parts: Parts<'_>) -> Buffer
     requires { ⌜ length (now (parts .ad)) + length (now (parts .text)) ≤ 4077 ⌝ }
-    ensures frame { λ r. ⌜ held r ≡ sealed-frame variant (parts .entry .nonce) (now (parts .entry .ad)) (scheme-of variant .frame (answer (now (cipher .entry))) (now (key .entry)) (parts .entry .nonce) (now (parts .entry .ad)) (now (parts .entry .text))) ⌝ }
-    ensures short { λ r. ⌜ length (held r) ≤ 4112 ⌝ }
+    ensures frame { λ r. ⌜ contents r ≡ sealed-frame variant (parts .entry .nonce) (now (parts .entry .ad)) (scheme-of variant .frame (answer (now (cipher .entry))) (now (key .entry)) (parts .entry .nonce) (now (parts .entry .ad)) (now (parts .entry .text))) ⌝ }
+    ensures short { λ r. ⌜ length (contents r) ≤ 4112 ⌝ }
 {
     let Parts { nonce, ad, text: message } = parts;
     let mut room = [0; 4096];
@@ -116,7 +117,7 @@ pub(crate) fn seal_frame<C: Cipher>(cipher: &mut C, variant: Variant, key: &[u8;
 pub(crate) fn open_frame<C: Cipher>(cipher: &mut C, variant: Variant, key: &[u8; 16], sealed: Sealed<'_>) -> Result<Buffer, Refusal>
     requires { ⌜ length (now (sealed .parts .text)) ≤ 4096 ⌝ }
     ensures opens { λ r. ⌜ Opens (scheme-of variant) (answer (now (cipher .entry))) (now (key .entry)) (sealed .entry .parts .nonce) (now (sealed .entry .parts .ad)) (now (sealed .entry .parts .text)) (sealed .entry .tag) (mode-reply r) ⌝ }
-    ensures short { λ r. ⌜ made r (λ b. length (held b) ≤ 4112) ⌝ }
+    ensures short { λ r. ⌜ made r (λ b. length (contents b) ≤ 4112) ⌝ }
 {
     let Sealed { parts, tag } = sealed;
     let Parts { nonce, ad, text } = parts;
@@ -133,8 +134,8 @@ pub(crate) fn open_frame<C: Cipher>(cipher: &mut C, variant: Variant, key: &[u8;
 
 /// The digest of a text.
 pub(crate) fn digest<C: Cipher>(cipher: &mut C, text: &[u8]) -> Buffer
-    ensures digest { λ r. ⌜ held r ≡ digest-of (answer (now (cipher .entry))) (now (text .entry)) ⌝ }
-    ensures short { λ r. ⌜ length (held r) ≤ 4112 ⌝ }
+    ensures digest { λ r. ⌜ contents r ≡ digest-of (answer (now (cipher .entry))) (now (text .entry)) ⌝ }
+    ensures short { λ r. ⌜ length (contents r) ≤ 4112 ⌝ }
 {
     let Digest { left, right } = Hasher::new().finish(cipher, text);
     let mut result = Buffer::new();

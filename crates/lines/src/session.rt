@@ -3,10 +3,10 @@ ghost use mathlib.Core.Path.{_≡_};
 ghost use Prim.Native.Nat.{_≤_};
 ghost use lib.ListN.{length};
 ghost use Rattle.std.specs.Vec.{made};
-ghost use Rattle.hex.specs.Buffers.{held as heldBytes, Wiped};
-ghost use Rattle.lines.specs.Requests.{meaning};
-ghost use Rattle.lines.specs.Services.{cipher-answer, mode-reply};
-ghost use Rattle.lines.specs.Sessions.{Small, Gives, after, line-order, line-reply, Tells, held-after, written, Spelled, Answered};
+ghost use Rattle.hex.specs.Buffers.{contents, Wiped};
+ghost use Rattle.lines.specs.Requests.{meaning, Small, mode-reply, line-reply};
+ghost use Rattle.lines.specs.Services.{cipher-answer};
+ghost use Rattle.lines.specs.Sessions.{Gives, after, line-order, Tells, held-after, written, Spelled, Answered};
 ghost use Rattle.lines.specs.Laws.{at-first, Lawful, Run-laws};
 use crate::frame::CipherName;
 use crate::frame::Request;
@@ -39,7 +39,7 @@ impl Held {
         requires { ⌜ Small (meaning request) ⌝ }
         ensures gives { λ r. ⌜ Gives (cipher-answer (now (self .entry) .cipher)) (meaning (request .entry)) (mode-reply r) ⌝ }
         ensures after { λ _. ⌜ now (self .exit) ≡ after (now (self .entry)) (meaning (request .entry)) ⌝ }
-        ensures short { λ r. ⌜ made r (λ b. length (heldBytes b) ≤ 4112) ⌝ }
+        ensures short { λ r. ⌜ made r (λ b. length (contents b) ≤ 4112) ⌝ }
     {
         let mut cipher = self.cipher.make();
         match request {
@@ -60,8 +60,8 @@ impl Held {
 
 // The answer line of a reply: 00 and the result in small digits, or the report of the fault.
 fn write_answer(reply: Result<Buffer, Fault>) -> Buffer
-    requires { ⌜ made reply (λ b. length (heldBytes b) ≤ 4112) ⌝ }
-    ensures text { λ r. ⌜ heldBytes r ≡ written (line-reply reply) ⌝ }
+    requires { ⌜ made reply (λ b. length (contents b) ≤ 4112) ⌝ }
+    ensures text { λ r. ⌜ contents r ≡ written (line-reply reply) ⌝ }
     ensures back { λ _. ⌜ Spelled (line-reply reply) ⌝ }
 {
     let mut text = Buffer::new();
@@ -98,17 +98,18 @@ impl Session {
     fn reply(&mut self, line: &[u8]) -> Result<Buffer, Fault>
         ensures tells { λ r. ⌜ Tells (cipher-answer (now (self .entry) .held .cipher)) (line-order (now (self .entry) .held) (now (line .entry))) (line-reply r) ⌝ }
         ensures after { λ _. ⌜ now (self .exit) .held ≡ held-after (now (self .entry) .held) (line-order (now (self .entry) .held) (now (line .entry))) ⌝ }
-        ensures short { λ r. ⌜ made r (λ b. length (heldBytes b) ≤ 4112) ⌝ }
+        ensures short { λ r. ⌜ made r (λ b. length (contents b) ≤ 4112) ⌝ }
     {
         decode(line, &mut self.frame)?;
         let request = read(self.held.key, self.frame.as_slice())?;
         let result = self.held.serve(request)?;
         Ok(result)
     }
+
     /// Answers a line. A key line is zeros afterwards, and any other is as it was; the frame's bytes are cleared.
     pub fn answer(&mut self, line: &mut [u8]) -> Buffer
-        ensures answered { λ r. ⌜ Answered (now (self .entry) .held) (now (line .entry)) (heldBytes r) (now (self .exit) .held) (now (line .exit)) ⌝ }
-        ensures lawful { λ r. ⌜ Lawful (now (self .entry) .held) (now (line .entry)) (heldBytes r) (now (self .exit) .held) ⌝ }
+        ensures answered { λ r. ⌜ Answered (now (self .entry) .held) (now (line .entry)) (contents r) (now (self .exit) .held) (now (line .exit)) ⌝ }
+        ensures lawful { λ r. ⌜ Lawful (now (self .entry) .held) (now (line .entry)) (contents r) (now (self .exit) .held) ⌝ }
         ensures wiped { λ _. ⌜ Wiped (now (self .exit) .frame) ⌝ }
     {
         let reply = if is_key_line(line) {

@@ -4,7 +4,7 @@ use borrow.Author.Needs.{needs}
 use lib.ListN.{length, getD}
 use Rattle.std.specs.Options.{valueOr}
 use Rattle.hex.specs.Digits.{digit-value}
-use Rattle.hex.specs.Buffers.{held}
+use Rattle.hex.specs.Buffers.{contents}
 use Rattle.hex.proofs.Spelling.{read-more}
 use Rattle.hex.proofs.decode.Needs as need
 
@@ -15,6 +15,6 @@ loop-rest-again c =
     let high = ap (λ v. v * 16 + c .value-in-len2-up .result) (c .value .ensures .value) in
     let low = ap (λ v. valueOr (digit-value (getD rest 0 0)) 0 * 16 + v) (c .value-in-len2-up .ensures .value) in
     (
-      read-more (c .args .line .now) (held (c .loop-rest .bytes)) (held (c .push .last .self)) rest _ (c .loop-rest .inv .1) two (c .loop-rest .inv .0) (high ∙ low) (c .push .ensures),
+      read-more (c .args .line .now) (contents (c .loop-rest .bytes)) (contents (c .push .last .self)) rest _ (c .loop-rest .inv .1) two (c .loop-rest .inv .0) (high ∙ low) (c .push .ensures),
       c .loop-rest .inv .1,
     )
