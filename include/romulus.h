@@ -23,7 +23,8 @@
      ROMULUS_KEY_LENGTH.
    - An output place that overlaps another buffer is refused: out with ROMULUS_OUTPUT_LENGTH, a tag's place with
      ROMULUS_TAG_LENGTH, a digest's place with ROMULUS_DIGEST_LENGTH. It is then full of zeros, and so is what it covers.
-     A buffer that overlaps the post is refused with the number that asks for its length.
+     A buffer that overlaps the post is refused with the number that asks for its length; where it is an output place the
+     post is ended too, with zeros in all of it, so that no count is set back.
 
    What C owes, and nothing can check: each pointer points at as many bytes as its length says, which last for the whole
    call, and no other thread writes there meanwhile. A nonce comes only once under one key: with N and T a second use
@@ -443,6 +444,13 @@ static inline romulus_reading romulus_post_unread(void)
     return reading;
 }
 
+/* Zeros over an output place, and over the whole post where that is touched. */
+static inline void romulus_post_zero(romulus_post *post, uint8_t *at, size_t len)
+{
+    if (post != NULL && romulus_overlap((const uint8_t *)post, sizeof *post, at, len)) memset(post, 0, sizeof *post);
+    romulus_zero(at, len);
+}
+
 ROMULUS_CALL uint32_t romulus_post_make(
     romulus_post *post, uint32_t mode, uint32_t rounds, const uint8_t *key, size_t key_len,
     uint64_t prefix, uint64_t first, uint64_t amount, uint64_t allowance)
@@ -462,8 +470,8 @@ ROMULUS_CALL romulus_post_answer romulus_post_seal(
     uint8_t nothing[2];
     uint32_t slip = romulus_slip((const uint8_t *)post, sizeof *post, NULL, 0, NULL, 0, ad, ad_len, message, message_len, tag, tag_len, out, out_len, 1);
     if (slip != ROMULUS_TAKEN) {
-        romulus_zero(out, out_len);
-        romulus_zero(tag, tag_len);
+        romulus_post_zero(post, out, out_len);
+        romulus_post_zero(post, tag, tag_len);
         return romulus_post_refused(slip);
     }
     return romulus_c_post_seal(post, romulus_address(ad), ad_len, romulus_address(message), message_len,
@@ -477,7 +485,7 @@ ROMULUS_CALL romulus_post_answer romulus_post_open(
     uint8_t nothing[1];
     uint32_t slip = romulus_slip((const uint8_t *)post, sizeof *post, NULL, 0, nonce, nonce_len, ad, ad_len, text, text_len, tag, tag_len, out, out_len, 0);
     if (slip != ROMULUS_TAKEN) {
-        romulus_zero(out, out_len);
+        romulus_post_zero(post, out, out_len);
         return romulus_post_refused(slip);
     }
     return romulus_c_post_open(post, romulus_address(nonce), nonce_len, romulus_address(ad), ad_len,

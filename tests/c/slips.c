@@ -159,7 +159,11 @@ static void posts(void)
     want(post_is(romulus_post_open(&post, nonce, 16, ad, 20, message, 16, inside, 16, out, 16), 9), "a tag inside the post");
     want(post_is(romulus_post_open(&post, nonce, 16, ad, 20, message, 20, tag, 16, message, 20), 8) && zeros(message, 20), "a post opens in place");
     want(memcmp(&before, &post, sizeof post) == 0, "no slip alters the post");
-    want(post_is(romulus_post_open(&post, nonce, 16, ad, 20, message, 16, tag, 16, inside, 16), 8) && zeros(inside, 16), "an opening into the post");
+    want(post_is(romulus_post_open(&post, nonce, 16, ad, 20, message, 16, tag, 16, inside, 16), 8) && zeros((uint8_t *)&post, sizeof post), "an opening into the post ends it");
+    start_post(&post);
+    want(post_is(romulus_post_seal(&post, ad, 20, message, 8, (uint8_t *)&post.count, 8, tag, 16), 8) && zeros((uint8_t *)&post, sizeof post), "a seal over the count ends the post");
+    start_post(&post);
+    want(post_is(romulus_post_seal(&post, ad, 20, message, 20, out, 20, inside + 8, 16), 9) && zeros((uint8_t *)&post, sizeof post), "a tag in the post ends it");
 }
 
 static void words(void)
