@@ -1,7 +1,7 @@
 -- What a cipher means: one answer for each tweakey and block.
 use Rattle.std.specs.Prelude.{◌≡◌, ℕ, ◌+◌, ◌%◌, ◌^◌, List, map, length, bit_xor, slice_index}
 use Rattle.std.specs.List.{range_with_len}
-use Rattle.bytes.specs.Block.{tweakey_of}
+use Rattle.byte_blocks.specs.Block.{tweakey_of}
 
 -- What a cipher answers: a block, from a tweakey (48 bytes) and a block (16 bytes). The stand_in below is one.
 abbrev pub Answer : Type 0

@@ -3,7 +3,7 @@ ghost use Rattle.std.specs.Prelude.{◌≡◌, ℕ, ◌+◌, ◌%◌, ◌^◌, �
 ghost use Rattle.cipher.specs.Cipher.{Answer, Sixteen, Called, enciphered, stand_in};
 ghost use Rattle.std.proofs.Common.{rules};
 
-use bytes::tweakey;
+use byte_blocks::tweakey;
 
 /// A tweakable block cipher: one fixed 16-byte answer for each tweakey and block, and a count of its calls modulo 2^64.
 pub trait Cipher {

@@ -1,9 +1,9 @@
 -- An answer, written.
 use Rattle.std.proofs.Common.{◌≡◌, ℕ, ◌+◌, ◌*◌, ◌≤◌, List, [], ◌∷◌, ◌++◌, length, take, ap, ◌∙◌, arith}
 use Rattle.std.proofs.lemmas.List.{take_all}
-use Rattle.hex.specs.Digits.{digits_of}
-use Rattle.hex.proofs.Fills.{pushed_on}
-use Rattle.hex.proofs.Spelling.{length_digits}
+use Rattle.hex_lines.specs.Digits.{digits_of}
+use Rattle.hex_lines.proofs.Fills.{pushed_on}
+use Rattle.hex_lines.proofs.Spelling.{length_digits}
 
 -- 00, and the digits of the result behind it
 pub result_written : (room : ℕ) (result : List ℕ) {h₀ h₁ h₂ : List ℕ} → 2 + 2 * length result ≤ room → h₀ ≡ [] →

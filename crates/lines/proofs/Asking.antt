@@ -2,7 +2,7 @@
 use Rattle.std.proofs.Common.{◌≡◌, ℕ, suc, ◌+◌, ◌-◌, ◌≤◌, Bool, true, false, cond, List, [], ◌∷◌, length, drop, Some, None, Ok, Err, Option, Result, refl, subst, arith, length-drop, length-take}
 use Rattle.std.proofs.lemmas.List.{length-take-le}
 use Rattle.std.proofs.lemmas.Bool.{leb-true}
-use Rattle.hex.specs.declared.fault.FrameFault.{FrameFault}
+use Rattle.hex_lines.specs.declared.fault.FrameFault.{FrameFault}
 use Rattle.lines.specs.declared.frame.CipherName.{CipherName}
 use Rattle.lines.specs.declared.frame.Kind.{Kind}
 use Rattle.lines.specs.declared.frame.Kind.TheVariants.{Key, Cipher, Seal, Open, Hash}

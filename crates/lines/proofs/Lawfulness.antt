@@ -1,10 +1,10 @@
 -- The laws of an answer.
 use Rattle.std.proofs.Common.{◌≡◌, ℕ, ◌≤◌, List, [], ◌∷◌, length, take, drop, Ok, Err, Result, sym, refl, ap, ◌∙◌, subst, arith}
-use Rattle.hex.specs.declared.fault.LineFault.{LineFault}
-use Rattle.hex.specs.declared.fault.FrameFault.{FrameFault}
-use Rattle.hex.specs.declared.fault.Fault.{Fault}
-use Rattle.hex.specs.Digits.{line_check, bytes_of, digits_of, ReadBack}
-use Rattle.hex.proofs.Spelling.{bytes_short, length_digits}
+use Rattle.hex_lines.specs.declared.fault.LineFault.{LineFault}
+use Rattle.hex_lines.specs.declared.fault.FrameFault.{FrameFault}
+use Rattle.hex_lines.specs.declared.fault.Fault.{Fault}
+use Rattle.hex_lines.specs.Digits.{line_check, bytes_of, digits_of, ReadBack}
+use Rattle.hex_lines.proofs.Spelling.{bytes_short, length_digits}
 use Rattle.cipher.specs.Cipher.{Answer, Sixteen}
 use Rattle.skinny.specs.declared.Rounds.TheVariants.{Forty, FiftySix}
 use Rattle.skinny.specs.Sixteen.{answer_long}

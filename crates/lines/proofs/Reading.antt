@@ -2,8 +2,8 @@
 use Rattle.std.proofs.Common.{◌≡◌, ℕ, suc, ◌+◌, ◌-◌, ◌≤◌, cond, List, [], ◌∷◌, length, get_or, take, drop, Some, Ok, Err, Option, Result, sym, ap, ◌∙◌, subst, arith}
 use Rattle.std.proofs.lemmas.List.{take_rest, take_all}
 use Rattle.std.proofs.lemmas.Bool.{cond-true, eq-eqb}
-use Rattle.hex.specs.declared.fault.FrameFault.{FrameFault}
-use Rattle.hex.specs.declared.fault.FrameFault.TheVariants.{FrameLength}
+use Rattle.hex_lines.specs.declared.fault.FrameFault.{FrameFault}
+use Rattle.hex_lines.specs.declared.fault.FrameFault.TheVariants.{FrameLength}
 use Rattle.lines.specs.declared.frame.Kind.{Kind}
 use Rattle.lines.specs.declared.frame.Kind.TheVariants.{Key}
 use Rattle.lines.specs.declared.frame.Request.{Request}

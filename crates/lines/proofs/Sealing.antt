@@ -1,7 +1,7 @@
 -- A sealed frame, put together and measured.
 use Rattle.std.proofs.Common.{◌≡◌, ℕ, ◌+◌, ◌≤◌, List, [], ◌∷◌, ◌++◌, length, take, ap, ◌∙◌, append_assoc, arith, length-append}
 use Rattle.std.proofs.lemmas.List.{take_all}
-use Rattle.hex.proofs.Fills.{pushed_on}
+use Rattle.hex_lines.proofs.Fills.{pushed_on}
 use Rattle.lines.specs.declared.frame.Variant.{Variant}
 use Rattle.lines.specs.Services.{letter_of, length_bytes, sealed_frame}
 

@@ -1,7 +1,7 @@
 -- Frames: a letter that names the kind, and a body that fits it.
 use Rattle.std.specs.Prelude.{ℕ, ◌+◌, ◌-◌, ◌*◌, Bool, true, cond, List, [], ◌∷◌, length, take, drop, Some, None, Ok, Err, Option, Result, ◌==◌, nat_le, slice_index}
-use Rattle.hex.specs.declared.fault.FrameFault.{FrameFault}
-use Rattle.hex.specs.declared.fault.FrameFault.TheVariants.{UnknownLetter, FrameLength, NoKey, UnknownCipher}
+use Rattle.hex_lines.specs.declared.fault.FrameFault.{FrameFault}
+use Rattle.hex_lines.specs.declared.fault.FrameFault.TheVariants.{UnknownLetter, FrameLength, NoKey, UnknownCipher}
 use Rattle.lines.specs.declared.frame.Variant.{Variant}
 use Rattle.lines.specs.declared.frame.Variant.TheVariants.{RomulusN, RomulusM, RomulusT}
 use Rattle.lines.specs.declared.frame.CipherName.{CipherName}

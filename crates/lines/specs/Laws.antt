@@ -1,6 +1,6 @@
 -- What holds of every answer, and of every run of a session.
 use Rattle.std.specs.Prelude.{◌≡◌, ℕ, ◌≤◌, List, [], ◌∷◌, ◌++◌, map, length, take, drop, None, Ok}
-use Rattle.hex.specs.Digits.{digits_of}
+use Rattle.hex_lines.specs.Digits.{digits_of}
 use Rattle.lines.specs.declared.frame.CipherName.TheVariants.{Skinny40}
 use Rattle.lines.specs.declared.frame.Variant.{Variant}
 use Rattle.lines.specs.declared.session.Held.{Held}

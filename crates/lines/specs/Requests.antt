@@ -1,11 +1,11 @@
 -- How the code holds the parts of a frame, what it asks for, and the reply. Inner functions speak of it; no public contract does.
 use Rattle.std.specs.Prelude.{◌≡◌, ℕ, ◌+◌, ◌<◌, ◌≤◌, List, length, IfOk, Some, None, Ok, Err, Option, Result}
 use Rattle.refusals.specs.declared.Refusal.{Refusal}
-use Rattle.hex.specs.declared.buffer.Buffer.{Buffer}
-use Rattle.hex.specs.declared.fault.FrameFault.{FrameFault}
-use Rattle.hex.specs.declared.fault.Fault.{Fault}
-use Rattle.hex.specs.declared.fault.Fault.TheVariants.{Mode}
-use Rattle.hex.specs.Buffers.{contents}
+use Rattle.hex_lines.specs.declared.buffer.Buffer.{Buffer}
+use Rattle.hex_lines.specs.declared.fault.FrameFault.{FrameFault}
+use Rattle.hex_lines.specs.declared.fault.Fault.{Fault}
+use Rattle.hex_lines.specs.declared.fault.Fault.TheVariants.{Mode}
+use Rattle.hex_lines.specs.Buffers.{contents}
 use Rattle.lines.specs.declared.frame.Parts.{Parts}
 use Rattle.lines.specs.declared.frame.Sealed.{Sealed}
 use Rattle.lines.specs.declared.frame.Request.{Request}

@@ -1,8 +1,8 @@
 -- What the orders give: a sealed frame, a message, a digest.
 use Rattle.std.specs.Prelude.{◌≡◌, ℕ, ◌/◌, ◌%◌, List, [], ◌∷◌, ◌++◌, length, Ok, Err, Result}
 use Rattle.refusals.specs.declared.Refusal.TheVariants.{WrongFrame}
-use Rattle.hex.specs.declared.fault.Fault.{Fault}
-use Rattle.hex.specs.declared.fault.Fault.TheVariants.{Mode}
+use Rattle.hex_lines.specs.declared.fault.Fault.{Fault}
+use Rattle.hex_lines.specs.declared.fault.Fault.TheVariants.{Mode}
 use Rattle.cipher.specs.Cipher.{Answer, stand_in}
 use Rattle.skinny.specs.Skinny.{skinny}
 use Rattle.mode.specs.Mode.{Scheme, SealsTo, Right}

@@ -1,11 +1,11 @@
 -- A session: what an order gives, and what is held after it. What a session holds from line to line is a key, or none yet, and a cipher.
 use Rattle.std.specs.Prelude.{◌≡◌, ℕ, List, [], ◌∷◌, Some, Ok, Err, Result}
-use Rattle.hex.specs.declared.fault.LineFault.{LineFault}
-use Rattle.hex.specs.declared.fault.FrameFault.{FrameFault}
-use Rattle.hex.specs.declared.fault.Fault.{Fault}
-use Rattle.hex.specs.declared.fault.Fault.TheVariants.{Line, Frame}
-use Rattle.hex.specs.Digits.{line_check, bytes_of, digits_of, ReadBack}
-use Rattle.hex.specs.Faults.{report_of}
+use Rattle.hex_lines.specs.declared.fault.LineFault.{LineFault}
+use Rattle.hex_lines.specs.declared.fault.FrameFault.{FrameFault}
+use Rattle.hex_lines.specs.declared.fault.Fault.{Fault}
+use Rattle.hex_lines.specs.declared.fault.Fault.TheVariants.{Line, Frame}
+use Rattle.hex_lines.specs.Digits.{line_check, bytes_of, digits_of, ReadBack}
+use Rattle.hex_lines.specs.Faults.{report_of}
 use Rattle.cipher.specs.Cipher.{Answer}
 use Rattle.romulus_h.specs.Hash.{digest_of}
 use Rattle.lines.specs.declared.session.Held.{Held}

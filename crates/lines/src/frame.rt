@@ -3,7 +3,7 @@ ghost use Rattle.std.specs.Prelude.{◌≡◌, if◌then◌else◌, Err};
 ghost use Rattle.lines.specs.Frames.{kind_of, cipher_of, fits, ordered, order_of};
 ghost use Rattle.lines.specs.Requests.{Cut, SealedCut, ReadAs};
 
-use hex::fault::FrameFault;
+use hex_lines::fault::FrameFault;
 
 /// The three modes that seal.
 #[derive(Clone, Copy)]

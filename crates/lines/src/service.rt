@@ -3,14 +3,14 @@ ghost use Rattle.std.specs.Prelude.{◌≡◌, ◌+◌, ◌≤◌, length, IfOk}
 ghost use Rattle.mode.specs.Mode.{SealsTo, Opened};
 ghost use Rattle.romulus_h.specs.Hash.{digest_of};
 ghost use Rattle.any_cipher.specs.AnyCipher.{any_answer};
-ghost use Rattle.hex.specs.Buffers.{contents};
+ghost use Rattle.hex_lines.specs.Buffers.{contents};
 ghost use Rattle.lines.specs.Requests.{mode_reply};
 ghost use Rattle.lines.specs.Services.{scheme_of, letter_of, cipher_answer, length_bytes, sealed_frame, Opens};
 
 use crate::frame::{CipherName, Parts, Sealed, Variant};
 use any_cipher::AnyCipher;
 use cipher::Cipher;
-use hex::buffer::Buffer;
+use hex_lines::buffer::Buffer;
 use mode::Mode;
 use refusals::Refusal;
 use romulus_h::{Digest, Hasher};

@@ -1,6 +1,6 @@
 //! A session: the key and the cipher held from line to line, and the answer to each line.
 ghost use Rattle.std.specs.Prelude.{◌≡◌, ◌≤◌, length, IfOk};
-ghost use Rattle.hex.specs.Buffers.{contents, Wiped};
+ghost use Rattle.hex_lines.specs.Buffers.{contents, Wiped};
 ghost use Rattle.lines.specs.Requests.{meaning, Small, mode_reply, line_reply, Replied};
 ghost use Rattle.lines.specs.KeyLines.{line_after};
 ghost use Rattle.lines.specs.Services.{cipher_answer};
@@ -10,9 +10,9 @@ ghost use Rattle.lines.specs.Laws.{at_first, Lawful, RunLaws};
 use crate::frame::{CipherName, Request, read};
 use crate::key_line::{KeyLine, is_key_line};
 use crate::service::{digest, open_frame, seal_frame};
-use hex::buffer::Buffer;
-use hex::fault::Fault;
-use hex::{decode, encode};
+use hex_lines::buffer::Buffer;
+use hex_lines::fault::Fault;
+use hex_lines::{decode, encode};
 use refusals::Refusal;
 
 /// What a session holds from line to line: the key, once one was taken, and the cipher.

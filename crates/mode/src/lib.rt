@@ -5,7 +5,7 @@ ghost use Rattle.cipher.specs.Cipher.{Called};
 ghost use Rattle.mode.specs.Mode.{Scheme, Keeps, SealsTo, Opened, zeros};
 ghost use Rattle.mode.specs.Calls.{frame_questions, size_questions, refused as refusedOf, verdict_outcome, SealAnswer, OpenAnswer};
 
-use bytes::equal;
+use byte_blocks::equal;
 use cipher::Cipher;
 use refusals::{Refusal, answer_number};
 

@@ -14,7 +14,7 @@ pub record Nonce (n : List ℕ) : Type 0 where
 
 -- What every source owes of its list: these are nonces, and none comes twice.
 -- The empty list is such a list; one that holds sixteen zeros twice is not.
-pub record Nonces-proper (ns : List (List ℕ)) : Type 0 where
+pub record NoncesProper (ns : List (List ℕ)) : Type 0 where
   pub nonces : All Nonce ns
   pub no_repeats : NoRepeats ns
 

@@ -9,7 +9,7 @@ use Rattle.std.proofs.lemmas.List.{append_cancel_left, length-append}
 use Rattle.std.specs.Str.{bytes_eq}
 use Rattle.std.proofs.lemmas.Slice.Eq.{bytes_eq-Decides}
 use Rattle.std.proofs.lemmas.Bool.{or_parts, both_ways, cond_both}
-use Rattle.nonces.specs.Nonces.{NoRepeats, Nonce, Nonces-proper}
+use Rattle.nonces.specs.Nonces.{NoRepeats, Nonce, NoncesProper}
 use Rattle.nonces.specs.Sources.{big_endian, counted, sheet_nonces, listed, last_places}
 
 -- ---- lists without repeats
@@ -61,7 +61,7 @@ counted_apart prefix first amount w i j (h, l) d e =
     let k : first + i ≡ first + j = big_endian_apart (first + i) (first + j) (omega arith) (omega arith) (append_cancel_left prefix _ _ same) in
     omega arith
 
-pub counted_proper : (prefix : List ℕ) (first amount : ℕ) → length prefix ≡ 8 → ((i : ℕ) → slice_index prefix i < 256) → first + amount < 2 ^ 64 → Nonces-proper (counted prefix first amount)
+pub counted_proper : (prefix : List ℕ) (first amount : ℕ) → length prefix ≡ 8 → ((i : ℕ) → slice_index prefix i < 256) → first + amount < 2 ^ 64 → NoncesProper (counted prefix first amount)
 counted_proper prefix first amount l b w =
     record { nonces = counted_nonces prefix first amount l (All-from_get_or (λ b. b < 256) prefix 0 (λ i h. b i)); no_repeats = counted_apart prefix first amount w }
 
@@ -91,5 +91,5 @@ last_places_apart (n ∷ ns) =
     cond_both (listed n ns) (last_places ns) (n ∷ last_places ns) (λ l. NoRepeats l) (λ _. r)
     (λ e. more_apart n (last_places ns) (last_places_all (λ m. n ≢ m) ns (unlisted n ns e)) r)
 
-pub sheet_proper : (entries : List ℕ) → Nonces-proper (last_places (sheet_nonces entries))
+pub sheet_proper : (entries : List ℕ) → NoncesProper (last_places (sheet_nonces entries))
 sheet_proper entries = record { nonces = last_places_all Nonce (sheet_nonces entries) (sheet_all entries); no_repeats = last_places_apart (sheet_nonces entries) }

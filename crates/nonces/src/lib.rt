@@ -1,6 +1,6 @@
 //! Nonce sources: what a source means, a source that counts, and one that reads a sheet.
 ghost use Rattle.std.specs.Prelude.{◌≡◌, ℕ, List, [], ◌∷◌, ◌++◌, Decides, MatchOption};
-ghost use Rattle.nonces.specs.Nonces.{Nonces-proper, words};
+ghost use Rattle.nonces.specs.Nonces.{NoncesProper, words};
 ghost use Rattle.nonces.specs.Sources.{big_endian};
 
 mod counting;
@@ -15,7 +15,7 @@ pub trait NonceSource {
     ghost pending: { Self → List (List ℕ) };
 
     // Each has 16 bytes, and none comes twice.
-    ghost proper: { (s : Self) → Nonces-proper (pending s) };
+    ghost proper: { (s : Self) → NoncesProper (pending s) };
 
     /// Whether no nonce is left.
     fn is_empty(&self) -> bool

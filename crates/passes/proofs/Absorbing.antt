@@ -1,10 +1,10 @@
 -- The authenticating pass, a pair of blocks at a time.
 use Rattle.std.proofs.Common.{◌≡◌, ℕ, suc, ◌+◌, ◌-◌, ◌/◌, ◌^◌, ◌<◌, ◌≤◌, List, map, length, take, drop, sym, refl, ap, ◌∙◌, arith}
 use Rattle.std.proofs.lemmas.List.{length-drop, drop-drop}
-use Rattle.bytes.specs.Bytes.{xors}
-use Rattle.bytes.specs.Counter.{stepped, advanced}
-use Rattle.bytes.specs.Block.{padded, blocks, block_count}
-use Rattle.bytes.proofs.Pieces.{blocks_more, blocks_last}
+use Rattle.byte_blocks.specs.Bytes.{xors}
+use Rattle.byte_blocks.specs.Counter.{stepped, advanced}
+use Rattle.byte_blocks.specs.Block.{padded, blocks, block_count}
+use Rattle.byte_blocks.proofs.Pieces.{blocks_more, blocks_last}
 use Rattle.cipher.specs.Cipher.{Answer, Called, enciphered}
 use Rattle.cipher.proofs.Calls.{called_none, called_then, called_as}
 use Rattle.passes.specs.Passes.{absorbed}

@@ -1,10 +1,10 @@
 -- The pass the other way gives the text back, and leaves the same state.
 use Rattle.std.proofs.Common.{◌≡◌, ℕ, zero, suc, ◌+◌, ◌-◌, ◌/◌, ◌<◌, ◌≤◌, List, ◌++◌, length, take, drop, refl, ◌∙◌, arith}
 use Rattle.std.proofs.lemmas.List.{length-drop, length-append, length-take-le, take_at, drop_at, take-append-drop}
-use Rattle.bytes.proofs.Leaves.{length-xors, xors_twice}
-use Rattle.bytes.specs.Bytes.{xors, g_of}
-use Rattle.bytes.specs.Counter.{stepped}
-use Rattle.bytes.specs.Block.{blocks}
+use Rattle.byte_blocks.proofs.Leaves.{length-xors, xors_twice}
+use Rattle.byte_blocks.specs.Bytes.{xors, g_of}
+use Rattle.byte_blocks.specs.Counter.{stepped}
+use Rattle.byte_blocks.specs.Block.{blocks}
 use Rattle.cipher.specs.Cipher.{Answer, enciphered}
 use Rattle.passes.specs.declared.Direction.{Direction}
 use Rattle.passes.specs.declared.Direction.TheVariants.{Sealing, Opening}

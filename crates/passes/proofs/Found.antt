@@ -1,7 +1,7 @@
 -- A mode whose ciphertext is the message, walked from a state that its tag may decide, finds the message by the walk back.
 use Rattle.std.proofs.Common.{◌≡◌, ℕ, List, ◌∙◌}
-use Rattle.bytes.specs.Counter.{counter}
-use Rattle.bytes.specs.Block.{blocks}
+use Rattle.byte_blocks.specs.Counter.{counter}
+use Rattle.byte_blocks.specs.Block.{blocks}
 use Rattle.cipher.specs.Cipher.{Answer}
 use Rattle.mode.specs.Mode.{Scheme}
 use Rattle.mode.proofs.Judging.{Finds}

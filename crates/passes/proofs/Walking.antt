@@ -3,11 +3,11 @@ use Rattle.std.proofs.Common.{◌≡◌, ℕ, zero, suc, ◌+◌, ◌-◌, ◌/�
 use Rattle.std.proofs.lemmas.List.{length-drop, drop-drop, length-take-le, append_assoc, append-nil, drop_all}
 use Rattle.std.proofs.lemmas.Slice.{take-put_mid, drop-put_mid}
 use borrow.Rule.Slice.PartMut.{put_mid}
-use Rattle.bytes.specs.Bytes.{xors, g_of}
-use Rattle.bytes.specs.Counter.{stepped, advanced, counter}
-use Rattle.bytes.specs.Block.{parts, blocks, cut, block_count}
-use Rattle.bytes.proofs.Leaves.{length-xors}
-use Rattle.bytes.proofs.Pieces.{blocks_more, blocks_last}
+use Rattle.byte_blocks.specs.Bytes.{xors, g_of}
+use Rattle.byte_blocks.specs.Counter.{stepped, advanced, counter}
+use Rattle.byte_blocks.specs.Block.{parts, blocks, cut, block_count}
+use Rattle.byte_blocks.proofs.Leaves.{length-xors}
+use Rattle.byte_blocks.proofs.Pieces.{blocks_more, blocks_last}
 use Rattle.cipher.specs.Cipher.{Answer, Called, enciphered}
 use Rattle.cipher.proofs.Calls.{called_none, called_then, called_as}
 use Rattle.passes.specs.declared.Direction.{Direction}

@@ -1,9 +1,9 @@
 -- The two passes of Romulus-N and Romulus-M over a text: one that only authenticates, and one that enciphers as well.
 -- Both carry a block of 16 bytes from call to call, the state s. f is the cipher's answers and k the key.
 use Rattle.std.specs.Prelude.{ℕ, List, [], ◌∷◌, ◌++◌}
-use Rattle.bytes.specs.Bytes.{xors, g_of}
-use Rattle.bytes.specs.Counter.{stepped}
-use Rattle.bytes.specs.Block.{padded}
+use Rattle.byte_blocks.specs.Bytes.{xors, g_of}
+use Rattle.byte_blocks.specs.Counter.{stepped}
+use Rattle.byte_blocks.specs.Block.{padded}
 use Rattle.cipher.specs.Cipher.{Answer, enciphered}
 use Rattle.passes.specs.declared.Direction.{Direction}
 use Rattle.passes.specs.declared.Direction.TheVariants.{Sealing, Opening}

@@ -1,12 +1,12 @@
 //! The passes of Romulus-N and Romulus-M over a text.
 ghost use Rattle.std.specs.Prelude.{◌≡◌, ◌+◌, ◌-◌, ◌/◌, map, length};
-ghost use Rattle.bytes.specs.Bytes.{xors, g_of};
-ghost use Rattle.bytes.specs.Counter.{advanced, counter};
-ghost use Rattle.bytes.specs.Block.{padded, blocks, block_count};
+ghost use Rattle.byte_blocks.specs.Bytes.{xors, g_of};
+ghost use Rattle.byte_blocks.specs.Counter.{advanced, counter};
+ghost use Rattle.byte_blocks.specs.Block.{padded, blocks, block_count};
 ghost use Rattle.cipher.specs.Cipher.{Called, enciphered};
 ghost use Rattle.passes.specs.Passes.{absorbed, mixed, walked, left};
 
-use bytes::{g_block, pad, step, xor_into};
+use byte_blocks::{g_block, pad, step, xor_into};
 use cipher::{Cipher, encipher};
 
 /// Which way a text goes through the enciphering pass.

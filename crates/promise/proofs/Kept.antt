@@ -10,7 +10,7 @@ use Rattle.refusals.specs.declared.Refusal.TheVariants.{DataLength, TextLength, 
 use Rattle.refusals.specs.Refusals.{Question, ask, first_no, number_of}
 use Rattle.cipher.specs.Cipher.{Called}
 use Rattle.mode.specs.Mode.{Scheme, Keeps, SealsTo, Right, Opened, zeros}
-use Rattle.nonces.specs.Nonces.{NoRepeats, Nonce, Nonces-proper, words}
+use Rattle.nonces.specs.Nonces.{NoRepeats, Nonce, NoncesProper, words}
 use Rattle.promise.specs.Calls.{Call, Seal, Open, Read, places, Reply, Gave, Told, number_told, nonce_told, cost_told, Event, event, taken_seal, tick, how_many, costs_told, nonces_told}
 use Rattle.promise.specs.Answers.{Making, Standing, standing, fresh, price, some_left, next, questions, refusal_reply, seal_reply, verdict_reply, OpenFits, Fits, Run}
 use Rattle.promise.specs.Promises.{Came, Allowed, nonces_to_come, NeverTwice, EverySealThatCanBeIsTaken, OpensExactlyTheRightFrames, NumbersCostsReadings, Promises}
@@ -214,7 +214,7 @@ same_words n k a b e =
 words_at : (ns : List (List ℕ)) (k i : ℕ) (d : ℕ × ℕ) → i < k → i < length (take k ns) → get_or (map words (take k ns)) i d ≡ words (get_or ns i [])
 words_at ns k i d h l = get_or-map words (take k ns) i [] d l ∙ ap words (get_or-take k ns i [] h)
 
-words_once : (ns : List (List ℕ)) → Nonces-proper ns → (k : ℕ) → NoRepeats (map words (take k ns))
+words_once : (ns : List (List ℕ)) → NoncesProper ns → (k : ℕ) → NoRepeats (map words (take k ns))
 words_once ns p k i j (h, l) d e =
     let a : length (map words (take k ns)) ≡ length (take k ns) = length-map (take k ns) words in
     let b : length (take k ns) ≡ min k (length ns) = length-take k ns in
@@ -249,7 +249,7 @@ told m g b (event c a ∷ es) r =
     let p : nonces_to_come g (b ++ (e ∷ [])) ≡ drop (tick (taken_seal e)) s.nonces = ap (λ (x : Standing). x.nonces) (standing_push g b e) in
     told_by (taken_seal e) (nonce_told a) (nonces_told es) (how_many taken_seal es) s.nonces (taken_next m s c a r.0) (ih ∙ ap (λ (x : List (List ℕ)). map words (take (how_many taken_seal es) x)) p)
 
-pub never_twice : (m : Scheme) (g : Making) → Nonces-proper g.nonces → (es : List Event) → Ran m g [] es → NeverTwice m g es
+pub never_twice : (m : Scheme) (g : Making) → NoncesProper g.nonces → (es : List Event) → Ran m g [] es → NeverTwice m g es
 never_twice m g n es r =
     let t : nonces_told es ≡ map words (take (how_many taken_seal es) g.nonces) = told m g [] es r in
     record { in_order = t; once = subst (λ (l : List (ℕ × ℕ)). NoRepeats l) (sym t) (words_once g.nonces n (how_many taken_seal es)) }
@@ -261,7 +261,7 @@ counts m g es t r =
     let e : t ≡ standing g es = run_stands m g es t r in
     (record { same = ap (λ (z : Standing). z.cipher) e; counted = ap (λ (z : Standing). z.count) e }, ap (λ (z : Standing). z.nonces) e)
 
-pub promises : (m : Scheme) → Keeps m → (g : Making) → Nonces-proper g.nonces → (es : List Event) (t : Standing) → Run m (fresh g) es t → Promises m g es (record { cipher = t.cipher; count = t.count; nonces = t.nonces })
+pub promises : (m : Scheme) → Keeps m → (g : Making) → NoncesProper g.nonces → (es : List Event) (t : Standing) → Run m (fresh g) es t → Promises m g es (record { cipher = t.cipher; count = t.count; nonces = t.nonces })
 promises m ok g n es t r =
     let x : Ran m g [] es = run_ran m g es t r in
     let k = counts m g es t r in

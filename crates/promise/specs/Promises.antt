@@ -5,7 +5,7 @@ use Rattle.refusals.specs.declared.Refusal.TheVariants.{NoNonce, WrongFrame}
 use Rattle.refusals.specs.Refusals.{number_of, first_no}
 use Rattle.cipher.specs.Cipher.{Answer, Called}
 use Rattle.mode.specs.Mode.{Scheme, Keeps, SealsTo, Right, zeros}
-use Rattle.nonces.specs.Nonces.{NoRepeats, Nonces-proper, words}
+use Rattle.nonces.specs.Nonces.{NoRepeats, NoncesProper, words}
 use Rattle.promise.specs.Calls.{Call, Seal, Open, Read, places, Reply, Gave, Told, number_told, cost_told, Event, event, call_of, taken_seal, taken_open, wrong_open, how_many, costs_told, nonces_told}
 use Rattle.promise.specs.Answers.{Making, Standing, standing, fresh, size_questions, price, questions, Fits, Run}
 
@@ -141,7 +141,7 @@ OutsideSeesOnlySizesAndVerdicts m g h es ds = g.allowance ≡ h.allowance → g.
 -- P holds of every mode, every making and every list of calls, answered one after the other as the contract of a single call says.
 -- EveryRun NeverTwice says that no post, whatever it is asked, uses a nonce twice.
 abbrev pub EveryRun : (Scheme → Making → List Event → Type 0) → Type 0
-EveryRun P = (m : Scheme) → Keeps m → (g : Making) → Nonces-proper g.nonces → (es : List Event) (t : Standing) → Run m (fresh g) es t → P m g es
+EveryRun P = (m : Scheme) → Keeps m → (g : Making) → NoncesProper g.nonces → (es : List Event) (t : Standing) → Run m (fresh g) es t → P m g es
 
 -- A run leaves the cipher's answers as they were, and its count risen by all costs answered; and one nonce less for each taken seal.
 abbrev pub EveryRunCounts : Type 0

@@ -11,7 +11,7 @@ use Rattle.romulus_t.specs.ModeT.{t_scheme}
 use Rattle.romulus_n.specs.Laws.{n_keeps}
 use Rattle.romulus_m.specs.Laws.{m_keeps}
 use Rattle.romulus_t.specs.Laws.{t_keeps}
-use Rattle.nonces.specs.Nonces.{Nonces-proper}
+use Rattle.nonces.specs.Nonces.{NoncesProper}
 use Rattle.nonces.specs.Sources.{big_endian}
 use Rattle.nonces.specs.Proper.{counted_proper}
 use Rattle.promise.specs.Calls.{Event, event}
@@ -50,7 +50,7 @@ byte_at [] i h = omega arith
 byte_at (x ∷ xs) zero h = h.0
 byte_at (x ∷ xs) (suc i) h = byte_at xs i h.1
 
-made_proper : (made p : RomulusPost) → Made made p → Nonces-proper (making_of made).nonces
+made_proper : (made p : RomulusPost) → Made made p → NoncesProper (making_of made).nonces
 made_proper made p h =
     let s = sound made (subst (λ (z : RomulusPost). first_no (kept_questions z) ≡ None) h.is h.sound) in
     counted_proper (big_endian made.prefix) made.count made.amount refl

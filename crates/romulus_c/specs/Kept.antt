@@ -3,7 +3,7 @@ use Rattle.std.specs.Prelude.{◌≡◌, ℕ, ◌+◌, ◌-◌, ◌^◌, Bool, c
 use Rattle.refusals.specs.declared.Refusal.{Refusal}
 use Rattle.refusals.specs.declared.Refusal.TheVariants.{CountRange, AllowanceSize}
 use Rattle.refusals.specs.Refusals.{Question, ask, first_no, number_of}
-use Rattle.bytes.specs.Block.{zero_block}
+use Rattle.byte_blocks.specs.Block.{zero_block}
 use Rattle.skinny.specs.Skinny.{skinny}
 use Rattle.mode.specs.Mode.{Scheme}
 use Rattle.romulus_n.specs.ModeN.{n_scheme}

@@ -2,7 +2,7 @@
 use Rattle.std.proofs.Common.{◌≡◌, ℕ, zero, suc, ◌+◌, ◌-◌, ◌*◌, ◌/◌, ◌%◌, ◌^◌, ◌<◌, ◌≤◌, List, [], ◌∷◌, ◌++◌, length, take, drop, replicate, Some, None, sym, refl, ap, ◌∙◌, subst, append_assoc, zero-add, arith}
 use Rattle.std.proofs.lemmas.List.{take_all, length-append, length-take-le, length-replicate, take_at, drop_at, take-append-drop, length-drop, replicate-append-replicate}
 use Rattle.std.proofs.lemmas.Bool.{lt-ltb, le-ltb}
-use Rattle.bytes.specs.Block.{parts, cut, ipad, ipad_star, padded, ended}
+use Rattle.byte_blocks.specs.Block.{parts, cut, ipad, ipad_star, padded, ended}
 use Rattle.cipher.specs.Cipher.{Answer, Called}
 use Rattle.cipher.proofs.Calls.{called_none, called_then, called_as}
 use Rattle.romulus_h.specs.Hash.{marked, left_of, right_of, chained, digest_from, digest_of, hash_calls}

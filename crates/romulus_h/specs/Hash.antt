@@ -3,8 +3,8 @@ use Rattle.std.specs.Prelude.{ℕ, ◌+◌, ◌*◌, ◌/◌, List, [], ◌∷�
 use Rattle.refusals.specs.declared.Refusal.{Refusal}
 use Rattle.refusals.specs.declared.Refusal.TheVariants.{HashLength, DigestLength}
 use Rattle.refusals.specs.Refusals.{Question, ask}
-use Rattle.bytes.specs.Bytes.{xors}
-use Rattle.bytes.specs.Block.{parts, ipad, zero_block}
+use Rattle.byte_blocks.specs.Bytes.{xors}
+use Rattle.byte_blocks.specs.Block.{parts, ipad, zero_block}
 use Rattle.cipher.specs.Cipher.{Answer}
 
 -- A block whose first byte took ⊕ b. marked 2 (1 ∷ 5 ∷ []) is 3 ∷ 5 ∷ [].

@@ -1,6 +1,6 @@
 -- A hash under way: what is still to come decides the digest. Romulus-T hashes its parts one after the other so, without joining them.
 use Rattle.std.specs.Prelude.{◌≡◌, ℕ, ◌+◌, List, [], ◌++◌, length, Some, None, Option}
-use Rattle.bytes.specs.Block.{zero_block}
+use Rattle.byte_blocks.specs.Block.{zero_block}
 use Rattle.cipher.specs.Cipher.{Answer, Called}
 use Rattle.romulus_h.specs.Hash.{digest_from, hash_calls}
 use Rattle.romulus_h.specs.declared.Hasher.{Hasher}

@@ -1,13 +1,13 @@
 //! Romulus-H over any cipher: the hash of a text, and a hasher that takes a text in part by part.
 ghost use Rattle.std.specs.Prelude.{◌≡◌, ◌*◌, ◌/◌, ◌<◌, true, ◌++◌, length, take, drop, is_some};
 ghost use Rattle.refusals.specs.Refusals.{first_no};
-ghost use Rattle.bytes.specs.Bytes.{xors};
-ghost use Rattle.bytes.specs.Block.{ipad_star};
+ghost use Rattle.byte_blocks.specs.Bytes.{xors};
+ghost use Rattle.byte_blocks.specs.Block.{ipad_star};
 ghost use Rattle.cipher.specs.Cipher.{Called};
 ghost use Rattle.romulus_h.specs.Hash.{marked, left_of, right_of, hash_questions, hash_place, hash_cost};
 ghost use Rattle.romulus_h.specs.Hashing.{fresh, digest_after, calls_after, Absorbs};
 
-use bytes::{end_block, pad, thirds, xor_into};
+use byte_blocks::{end_block, pad, thirds, xor_into};
 use cipher::Cipher;
 use refusals::Refusal;
 

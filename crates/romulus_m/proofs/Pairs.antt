@@ -2,10 +2,10 @@
 use Rattle.std.proofs.Common.{◌≡◌, ℕ, zero, suc, ◌+◌, ◌-◌, ◌/◌, ◌%◌, ◌<◌, ◌≤◌, List, [], ◌∷◌, ◌++◌, map, length, take, drop, refl, ap, ◌∙◌, arith}
 use Rattle.std.proofs.lemmas.List.{length-map}
 use Rattle.std.proofs.lemmas.Bool.Decides.{nat_tests}
-use Rattle.bytes.specs.Bytes.{xors}
-use Rattle.bytes.specs.Counter.{stepped, advanced, counter}
-use Rattle.bytes.specs.Block.{padded, parts, blocks, block_count, zero_block}
-use Rattle.bytes.proofs.Pieces.{blocks-cut, blocks_more, blocks_last}
+use Rattle.byte_blocks.specs.Bytes.{xors}
+use Rattle.byte_blocks.specs.Counter.{stepped, advanced, counter}
+use Rattle.byte_blocks.specs.Block.{padded, parts, blocks, block_count, zero_block}
+use Rattle.byte_blocks.proofs.Pieces.{blocks-cut, blocks_more, blocks_last}
 use Rattle.cipher.specs.Cipher.{Answer, enciphered}
 use Rattle.passes.specs.declared.Direction.{Direction}
 use Rattle.passes.specs.Passes.{absorbed, walked}

@@ -1,6 +1,6 @@
 -- The worked examples, computed.
 use Rattle.std.proofs.Common.{refl}
-use Rattle.bytes.specs.Block.{padded, parts, tweakey_of}
+use Rattle.byte_blocks.specs.Block.{padded, parts, tweakey_of}
 use Rattle.cipher.specs.Cipher.{enciphered}
 use Rattle.romulus_m.specs.ModeM.{tag_domain, gathered}
 use Rattle.romulus_m.specs.Examples.{Examples}

@@ -1,6 +1,6 @@
 -- How the code takes a message that follows a block of data left over.
 use Rattle.std.specs.Prelude.{ℕ, List, [], ◌∷◌}
-use Rattle.bytes.specs.Counter.{stepped}
+use Rattle.byte_blocks.specs.Counter.{stepped}
 use Rattle.cipher.specs.Cipher.{Answer, enciphered}
 use Rattle.passes.specs.Passes.{absorbed}
 

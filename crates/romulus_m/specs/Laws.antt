@@ -2,8 +2,8 @@
 use Rattle.std.proofs.Common.{◌∙◌, arith}
 use Rattle.std.specs.Prelude.{ℕ, List, refl}
 use Rattle.std.proofs.lemmas.List.{length-map}
-use Rattle.bytes.specs.Bytes.{g_byte}
-use Rattle.bytes.specs.Counter.{counter}
+use Rattle.byte_blocks.specs.Bytes.{g_byte}
+use Rattle.byte_blocks.specs.Counter.{counter}
 use Rattle.cipher.specs.Cipher.{Answer, enciphered}
 use Rattle.passes.specs.declared.Direction.TheVariants.{Sealing}
 use Rattle.passes.proofs.Back.{length_walked}

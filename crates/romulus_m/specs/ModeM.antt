@@ -1,9 +1,9 @@
 -- Romulus-M over any cipher: f is the cipher's answers, k the key, n the nonce, ad the associated data. It stands repeated nonces.
 -- The examples are on the bench stand_in, with zeros for key and nonce and without data.
 use Rattle.std.specs.Prelude.{ℕ, zero, suc, ◌+◌, ◌/◌, ◌%◌, cond, List, [], ◌∷◌, ◌++◌, map, length, ◌==◌, bit_xor}
-use Rattle.bytes.specs.Bytes.{xors, g_of}
-use Rattle.bytes.specs.Counter.{stepped, counter}
-use Rattle.bytes.specs.Block.{padded, blocks, block_count, if_short, zero_block}
+use Rattle.byte_blocks.specs.Bytes.{xors, g_of}
+use Rattle.byte_blocks.specs.Counter.{stepped, counter}
+use Rattle.byte_blocks.specs.Block.{padded, blocks, block_count, if_short, zero_block}
 use Rattle.cipher.specs.Cipher.{Answer, enciphered}
 use Rattle.passes.specs.declared.Direction.TheVariants.{Sealing}
 use Rattle.passes.specs.Passes.{walked}

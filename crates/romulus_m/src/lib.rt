@@ -1,14 +1,14 @@
 //! Romulus-M over any cipher: authenticated encryption that stands a repeated nonce.
 ghost use Rattle.std.specs.Prelude.{◌≡◌, ℕ, ◌+◌, ◌/◌, map, length};
-ghost use Rattle.bytes.specs.Counter.{counter, advanced};
-ghost use Rattle.bytes.specs.Block.{padded, blocks, block_count, zero_block};
+ghost use Rattle.byte_blocks.specs.Counter.{counter, advanced};
+ghost use Rattle.byte_blocks.specs.Block.{padded, blocks, block_count, zero_block};
 ghost use Rattle.cipher.specs.Cipher.{Called};
 ghost use Rattle.passes.specs.Passes.{walked};
 ghost use Rattle.romulus_m.specs.ModeM.{if_even, tag_domain, gathered, seeded, tag_of, text_calls, m_scheme};
 ghost use Rattle.romulus_m.specs.Joined.{joined};
 ghost use Rattle.romulus_m.specs.Laws.{m_keeps};
 
-use bytes::{block_count, g_block, if_short, pad, step};
+use byte_blocks::{block_count, g_block, if_short, pad, step};
 use cipher::{Cipher, encipher};
 use mode::{Costs, Mode, settle};
 use passes::{Direction, absorb, walk};

@@ -1,6 +1,6 @@
 -- The worked examples, computed.
 use Rattle.std.proofs.Common.{refl}
-use Rattle.bytes.specs.Block.{padded, parts, tweakey_of}
+use Rattle.byte_blocks.specs.Block.{padded, parts, tweakey_of}
 use Rattle.cipher.specs.Cipher.{enciphered}
 use Rattle.romulus_n.specs.ModeN.{started}
 use Rattle.romulus_n.specs.Examples.{Examples}

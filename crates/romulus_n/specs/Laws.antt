@@ -2,9 +2,9 @@
 use Rattle.std.specs.Prelude.{◌≡◌, ℕ, List, length, refl}
 use Rattle.std.proofs.Common.{◌∙◌, arith}
 use Rattle.std.proofs.lemmas.List.{length-map}
-use Rattle.bytes.specs.Bytes.{g_byte}
-use Rattle.bytes.specs.Counter.{counter}
-use Rattle.bytes.specs.Block.{blocks}
+use Rattle.byte_blocks.specs.Bytes.{g_byte}
+use Rattle.byte_blocks.specs.Counter.{counter}
+use Rattle.byte_blocks.specs.Block.{blocks}
 use Rattle.cipher.specs.Cipher.{Answer, enciphered}
 use Rattle.passes.specs.declared.Direction.TheVariants.{Sealing, Opening}
 use Rattle.passes.specs.Passes.{left}

@@ -1,9 +1,9 @@
 -- Romulus-N over any cipher: f is the cipher's answers, k the key, n the nonce, ad the associated data. Its nonces must never repeat under a key.
 -- The examples are on the bench stand_in, with zeros for key and nonce and without data.
 use Rattle.std.specs.Prelude.{ℕ, ◌+◌, ◌/◌, List, map, length}
-use Rattle.bytes.specs.Bytes.{g_of}
-use Rattle.bytes.specs.Counter.{counter}
-use Rattle.bytes.specs.Block.{padded, blocks, block_count, if_short, zero_block}
+use Rattle.byte_blocks.specs.Bytes.{g_of}
+use Rattle.byte_blocks.specs.Counter.{counter}
+use Rattle.byte_blocks.specs.Block.{padded, blocks, block_count, if_short, zero_block}
 use Rattle.cipher.specs.Cipher.{Answer, enciphered}
 use Rattle.passes.specs.declared.Direction.TheVariants.{Sealing}
 use Rattle.passes.specs.Passes.{absorbed, walked, left}

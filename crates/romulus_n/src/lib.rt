@@ -1,11 +1,11 @@
 //! Romulus-N over any cipher: nonce-based authenticated encryption.
 ghost use Rattle.std.specs.Prelude.{◌≡◌, ◌+◌, ◌/◌, length};
-ghost use Rattle.bytes.specs.Block.{block_count, if_short};
+ghost use Rattle.byte_blocks.specs.Block.{block_count, if_short};
 ghost use Rattle.cipher.specs.Cipher.{Called, enciphered};
 ghost use Rattle.romulus_n.specs.ModeN.{started, n_scheme};
 ghost use Rattle.romulus_n.specs.Laws.{n_keeps};
 
-use bytes::{block_count, g_block, if_short};
+use byte_blocks::{block_count, g_block, if_short};
 use cipher::{Cipher, encipher};
 use mode::{Costs, Mode, settle};
 use passes::{Direction, absorb, walk};

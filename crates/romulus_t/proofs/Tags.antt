@@ -1,8 +1,8 @@
 -- The tag: the text that is hashed for it, and the digest's halves.
 use Rattle.std.proofs.Common.{◌≡◌, ℕ, ◌+◌, ◌*◌, List, [], ◌∷◌, ◌++◌, length, refl, ◌∙◌, append_assoc, arith}
 use Rattle.std.proofs.lemmas.List.{length-append, length-replicate, take_at, drop_at}
-use Rattle.bytes.specs.Counter.{counter, counter_bytes}
-use Rattle.bytes.specs.Block.{ipad, ipad_star}
+use Rattle.byte_blocks.specs.Counter.{counter, counter_bytes}
+use Rattle.byte_blocks.specs.Block.{ipad, ipad_star}
 use Rattle.cipher.specs.Cipher.{Answer, enciphered}
 use Rattle.romulus_h.specs.Hash.{digest_of}
 use Rattle.romulus_t.specs.ModeT.{message_blocks, padded_blocks, tag_input, tag_of}

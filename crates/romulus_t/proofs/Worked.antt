@@ -1,6 +1,6 @@
 -- The worked examples, computed.
 use Rattle.std.proofs.Common.{refl}
-use Rattle.bytes.specs.Block.{parts, ipad, ipad_star, tweakey_of}
+use Rattle.byte_blocks.specs.Block.{parts, ipad, ipad_star, tweakey_of}
 use Rattle.cipher.specs.Cipher.{enciphered}
 use Rattle.romulus_h.specs.Hash.{left_of, right_of, digest_from}
 use Rattle.romulus_t.specs.ModeT.{tag_input, tag_of}

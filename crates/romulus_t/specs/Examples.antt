@@ -1,6 +1,6 @@
 -- Worked examples of Romulus-T, on the bench stand_in with a key and a nonce of zeros.
 use Rattle.std.specs.Prelude.{◌≡◌, [], ◌∷◌}
-use Rattle.bytes.specs.Block.{zero_block}
+use Rattle.byte_blocks.specs.Block.{zero_block}
 use Rattle.cipher.specs.Cipher.{stand_in}
 use Rattle.romulus_t.specs.ModeT.{tag_of, t_cost}
 

@@ -1,9 +1,9 @@
 -- Romulus-T over any cipher: f is the cipher's answers, k the key, n the nonce, ad the associated data. Each block of the message has a key of its own.
 -- The examples are on the bench stand_in, with zeros for key and nonce.
 use Rattle.std.specs.Prelude.{ℕ, zero, suc, ◌+◌, ◌*◌, ◌/◌, List, [], ◌++◌, length, take, drop}
-use Rattle.bytes.specs.Bytes.{xors}
-use Rattle.bytes.specs.Counter.{stepped, counter, counter_bytes}
-use Rattle.bytes.specs.Block.{ipad_star, zero_block}
+use Rattle.byte_blocks.specs.Bytes.{xors}
+use Rattle.byte_blocks.specs.Counter.{stepped, counter, counter_bytes}
+use Rattle.byte_blocks.specs.Block.{ipad_star, zero_block}
 use Rattle.cipher.specs.Cipher.{Answer, enciphered}
 use Rattle.romulus_h.specs.Hash.{digest_of, hash_calls}
 use Rattle.mode.specs.Mode.{Scheme}

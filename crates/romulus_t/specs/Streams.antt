@@ -4,10 +4,10 @@ use Rattle.std.proofs.Common.{sym, ap, ◌∙◌, append_assoc, arith}
 use Rattle.std.proofs.lemmas.List.{length-append, length-drop, drop-drop, length-take-le, append-nil, drop_all, take-append-drop}
 use Rattle.std.proofs.lemmas.Slice.{take-put_mid, drop-put_mid}
 use borrow.Rule.Slice.PartMut.{put_mid}
-use Rattle.bytes.specs.Bytes.{xors}
-use Rattle.bytes.specs.Counter.{stepped, counter}
-use Rattle.bytes.specs.Block.{zero_block}
-use Rattle.bytes.proofs.Leaves.{length-xors, xors_twice}
+use Rattle.byte_blocks.specs.Bytes.{xors}
+use Rattle.byte_blocks.specs.Counter.{stepped, counter}
+use Rattle.byte_blocks.specs.Block.{zero_block}
+use Rattle.byte_blocks.proofs.Leaves.{length-xors, xors_twice}
 use Rattle.cipher.specs.Cipher.{Answer, Sixteen, Called, enciphered}
 use Rattle.cipher.proofs.Calls.{called_none, called_then, called_as}
 use Rattle.romulus_t.specs.ModeT.{message_blocks, stream, ciphertext_of}

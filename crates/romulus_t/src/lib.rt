@@ -1,14 +1,14 @@
 //! Romulus-T over any cipher: authenticated encryption that re-keys from block to block, with a hash for the tag.
 ghost use Rattle.std.specs.Prelude.{◌≡◌, ◌*◌, ◌++◌, length, Decides};
-ghost use Rattle.bytes.specs.Bytes.{xors};
-ghost use Rattle.bytes.specs.Counter.{counter};
-ghost use Rattle.bytes.specs.Block.{zero_block};
+ghost use Rattle.byte_blocks.specs.Bytes.{xors};
+ghost use Rattle.byte_blocks.specs.Counter.{counter};
+ghost use Rattle.byte_blocks.specs.Block.{zero_block};
 ghost use Rattle.cipher.specs.Cipher.{Called, enciphered};
 ghost use Rattle.romulus_h.specs.Hash.{digest_of, hash_calls};
 ghost use Rattle.romulus_t.specs.ModeT.{message_blocks, padded_blocks, tag_input, ciphertext_of, tag_of, tag_cost, t_scheme};
 ghost use Rattle.romulus_t.specs.Laws.{t_keeps};
 
-use bytes::{counter_bytes, equal, step, xor_into};
+use byte_blocks::{counter_bytes, equal, step, xor_into};
 use cipher::{Cipher, encipher};
 use mode::{Costs, Mode, clear};
 use romulus_h::{Digest, Hasher};

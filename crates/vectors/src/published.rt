@@ -17,7 +17,7 @@ impl Vector {
     pub(crate) fn holds(&self) -> bool {
         let mut cipher = Skinny::new(self.rounds);
         let answer = cipher.encrypt(&self.tweakey, &self.block);
-        bytes::equal(&answer, &self.answer)
+        byte_blocks::equal(&answer, &self.answer)
     }
 }
 

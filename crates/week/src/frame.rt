@@ -44,7 +44,7 @@ impl Frame {
 
     /// Whether two frames are the same, ciphertext and tag.
     pub(crate) fn same(&self, other: &Frame) -> bool {
-        self.text.as_slice() == other.text.as_slice() && bytes::equal(&self.tag, &other.tag)
+        self.text.as_slice() == other.text.as_slice() && byte_blocks::equal(&self.tag, &other.tag)
     }
 
     /// The label, which anybody reads off the frame without a key.

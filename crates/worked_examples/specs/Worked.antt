@@ -1,5 +1,5 @@
 -- The worked examples of the whole library, as one theorem about the definitions.
-use Rattle.bytes.specs.Examples.{Examples as BytesExamples}
+use Rattle.byte_blocks.specs.Examples.{Examples as BytesExamples}
 use Rattle.skinny.specs.Examples.{Examples as SkinnyExamples}
 use Rattle.romulus_n.specs.Examples.{Examples as NExamples}
 use Rattle.romulus_m.specs.Examples.{Examples as MExamples}

@@ -1,8 +1,8 @@
 use Rattle.std.proofs.Common.{ℕ, List, take, ap, ◌∙◌}
 use Rattle.std.proofs.lemmas.List.{take_rest}
-use Rattle.bytes.specs.Bytes.{xors}
-use Rattle.bytes.specs.Counter.{stepped}
-use Rattle.bytes.specs.Block.{padded}
+use Rattle.byte_blocks.specs.Bytes.{xors}
+use Rattle.byte_blocks.specs.Counter.{stepped}
+use Rattle.byte_blocks.specs.Block.{padded}
 use Rattle.cipher.specs.Cipher.{enciphered}
 use Rattle.passes.proofs.Absorbing.{absorbing_none, absorbing_more, absorbing_two, absorbing_one}
 use Rattle.passes.proofs.absorb.Goals as goal

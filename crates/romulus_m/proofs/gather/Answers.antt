@@ -1,5 +1,5 @@
 use Rattle.std.proofs.Common.{◌≡◌, ◌+◌, ◌-◌, ◌/◌, ◌%◌, length, sym, ◌∙◌, arith}
-use Rattle.bytes.specs.Block.{block_count}
+use Rattle.byte_blocks.specs.Block.{block_count}
 use Rattle.cipher.proofs.Calls.{called_then, called_as}
 use Rattle.romulus_m.proofs.Pairs.{gathered_even, gathered_odd, last_even, last_odd}
 use Rattle.romulus_m.proofs.gather.Goals as goal

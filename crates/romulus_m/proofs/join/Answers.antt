@@ -1,7 +1,7 @@
 use Rattle.std.proofs.Common.{◌≡◌, ℕ, ◌-◌, ◌/◌, length, drop, sym, ap, ◌∙◌, arith}
 use Rattle.std.proofs.lemmas.List.{take_rest, length-drop}
-use Rattle.bytes.specs.Counter.{stepped, advanced}
-use Rattle.bytes.specs.Block.{block_count}
+use Rattle.byte_blocks.specs.Counter.{stepped, advanced}
+use Rattle.byte_blocks.specs.Block.{block_count}
 use Rattle.cipher.proofs.Calls.{called_then, called_as}
 use Rattle.romulus_m.proofs.Pairs.{advanced_more, joined_more, joined_last}
 use Rattle.romulus_m.proofs.join.Goals as goal

@@ -1,5 +1,5 @@
 use Rattle.std.proofs.Common.{◌≡◌, ℕ, zero, suc, sym, refl, ap, ◌∙◌, add-one}
-use Rattle.bytes.specs.Counter.{stepped, advanced}
+use Rattle.byte_blocks.specs.Counter.{stepped, advanced}
 use Rattle.romulus_t.proofs.counter_at.Goals as goal
 
 -- a step after i steps is one of i + 1 steps

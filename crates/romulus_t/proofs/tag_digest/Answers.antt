@@ -1,5 +1,5 @@
 use Rattle.std.proofs.Common.{◌≡◌, length, ap, ◌∙◌, arith}
-use Rattle.bytes.specs.Counter.{counter, counter_bytes}
+use Rattle.byte_blocks.specs.Counter.{counter, counter_bytes}
 use Rattle.romulus_h.proofs.Hashes.{absorbs_both, absorbs_all}
 use Rattle.romulus_t.specs.ModeT.{message_blocks, tag_input}
 use Rattle.romulus_t.proofs.Tags.{input_parts}

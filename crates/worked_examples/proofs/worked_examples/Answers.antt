@@ -1,4 +1,4 @@
-use Rattle.bytes.proofs.Worked as bytes
+use Rattle.byte_blocks.proofs.Worked as bytes
 use Rattle.skinny.proofs.Worked as skinny
 use Rattle.romulus_n.proofs.Worked as mode_n
 use Rattle.romulus_m.proofs.Worked as mode_m

@@ -1,6 +1,6 @@
 use Rattle.std.proofs.Common.{◌≡◌, [], ◌++◌, length, ap, ◌∙◌, arith, length-append}
-use Rattle.hex.specs.Buffers.{contents}
-use Rattle.hex.proofs.Fills.{pushed_whole}
+use Rattle.hex_lines.specs.Buffers.{contents}
+use Rattle.hex_lines.proofs.Fills.{pushed_whole}
 use Rattle.romulus_h.specs.declared.Hasher.{Hasher}
 use Rattle.romulus_h.specs.Hashing.{digest_after}
 use Rattle.lines.proofs.service.digest.Goals as goal

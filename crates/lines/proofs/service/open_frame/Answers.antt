@@ -1,6 +1,6 @@
 use Rattle.std.proofs.Common.{◌≡◌, [], length, ap, arith}
-use Rattle.hex.specs.Buffers.{contents}
-use Rattle.hex.proofs.Fills.{pushed_whole}
+use Rattle.hex_lines.specs.Buffers.{contents}
+use Rattle.hex_lines.proofs.Fills.{pushed_whole}
 use Rattle.lines.proofs.service.open_frame.Goals as goal
 
 pub returns : goal.returns

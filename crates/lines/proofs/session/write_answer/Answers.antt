@@ -1,7 +1,7 @@
 use Rattle.std.proofs.Common.{◌≤◌, length, sym, ap, ◌∙◌, subst, arith}
 use Rattle.std.proofs.lemmas.Result.{IfOk-at_ok}
-use Rattle.hex.specs.declared.buffer.Buffer.{Buffer}
-use Rattle.hex.specs.Buffers.{contents}
+use Rattle.hex_lines.specs.declared.buffer.Buffer.{Buffer}
+use Rattle.hex_lines.specs.Buffers.{contents}
 use Rattle.lines.specs.Requests.{line_reply}
 use Rattle.lines.specs.Sessions.{written, Spelled}
 use Rattle.lines.proofs.Answering.{result_written}

@@ -2,7 +2,7 @@ use Rattle.std.proofs.Common.{◌≡◌, ℕ, List, [], ◌∷◌, sym, subst, a
 use Rattle.promise.specs.Calls.{Call, Seal, Read}
 use Rattle.post.specs.Post.{reply}
 use Rattle.romulus_c.specs.declared.kept.RomulusPostAnswer.{RomulusPostAnswer}
-use Rattle.romulus_c.specs.Kept.{Carried, reply as kept-reply}
+use Rattle.romulus_c.specs.Kept.{Carried, reply as kept_reply}
 use Rattle.romulus_c.proofs.Carrying.{call_room, call_carried}
 use Rattle.romulus_c.proofs.kept.seal_by.Goals as goal
 
@@ -21,4 +21,4 @@ returns g c =
     call_carried m g.met.M.Mode.keeps p call (reply c.seal-outcome.result written) _ _ c.retire.result.reading
     c.requires.sound c.load-inner.ensures c.seal-outcome.ensures.stepped c.retire.ensures.reading.fits
     (λ (e : call ≡ Read). let z : ◌≡◌ {A = ℕ} 0 1 = cc in omega arith) c.carry.new.post c.carry.ensures in
-    subst (λ (r : RomulusPostAnswer). Carried m p call (kept-reply r written) c.carry.new.post) (sym c.told.ensures) h
+    subst (λ (r : RomulusPostAnswer). Carried m p call (kept_reply r written) c.carry.new.post) (sym c.told.ensures) h

@@ -1,5 +1,5 @@
 use Rattle.std.proofs.Common.{◌≡◌, ℕ, ◌*◌, ◌/◌, ◌<◌, List, ◌++◌, length, take, drop, rules}
-use Rattle.bytes.specs.Block.{padded, ipad_star}
+use Rattle.byte_blocks.specs.Block.{padded, ipad_star}
 use Rattle.romulus_h.proofs.Hashes.{absorbs_both, absorbs_as, absorbs_none, star_parts, star_none}
 use Rattle.romulus_h.proofs.Hasher.absorb_padded.Goals as goal
 

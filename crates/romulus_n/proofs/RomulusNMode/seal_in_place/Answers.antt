@@ -1,5 +1,5 @@
 use Rattle.std.proofs.Common.{◌≡◌, length, sym, ap, ◌∙◌, arith}
-use Rattle.bytes.specs.Bytes.{g_of}
+use Rattle.byte_blocks.specs.Bytes.{g_of}
 use Rattle.cipher.proofs.Calls.{called_then, called_as}
 use Rattle.mode.proofs.Judging.{pairs}
 use Rattle.romulus_n.specs.ModeN.{ciphertext_of, tag_of, n_cost}

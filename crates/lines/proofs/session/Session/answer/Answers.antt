@@ -1,5 +1,5 @@
 use Rattle.std.proofs.Common.{rules}
-use Rattle.hex.specs.Buffers.{contents}
+use Rattle.hex_lines.specs.Buffers.{contents}
 use Rattle.lines.specs.Sessions.{Answered}
 use Rattle.lines.proofs.Lawfulness.{lawful}
 use Rattle.lines.proofs.session.Session.answer.Goals as goal

@@ -1,5 +1,5 @@
 use Rattle.std.proofs.Common.{length, ap, ◌∙◌, arith}
-use Rattle.hex.proofs.Spelling.{bytes_short}
+use Rattle.hex_lines.proofs.Spelling.{bytes_short}
 use Rattle.lines.specs.Requests.{meaning}
 use Rattle.lines.proofs.Asking.{asked_frame}
 use Rattle.lines.proofs.session.Session.reply.Goals as goal

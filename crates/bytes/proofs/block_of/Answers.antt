@@ -1,8 +1,0 @@
-use Rattle.std.proofs.Common.{◌∙◌}
-use Rattle.bytes.proofs.Leaves.{front_put, front_whole}
-use Rattle.bytes.proofs.block_of.Goals as goal
-
-pub returns : goal.returns
-returns c =
-    let put = front_put c.args.text.now c.copy-from-slice.new.self c.min-n.result c.min-n.ensures c.copy-from-slice.ensures.after in
-    record { value = put; whole = λ l. put ∙ front_whole c.args.text.now l }

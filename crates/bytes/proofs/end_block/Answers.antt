@@ -1,5 +1,0 @@
-use Rattle.bytes.proofs.Leaves.{end_put}
-use Rattle.bytes.proofs.end_block.Goals as goal
-
-pub returns : goal.returns
-returns c = end_put c.args.rest.now c.copy-from-slice.new.self c.min-n.result c.args.last c.min-n.ensures c.copy-from-slice.ensures.after

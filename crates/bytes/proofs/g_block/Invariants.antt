@@ -1,6 +1,0 @@
-use Rattle.std.proofs.Common.{◌≡◌, ◌++◌, map, take, drop}
-use Rattle.bytes.specs.Bytes.{g_byte}
-use Rattle.bytes.proofs.g_block.Given as goal
-
-abbrev pub invariant-loop-x : goal.invariant-loop-x
-invariant-loop-x l = l.x-items ≡ map g_byte (take l.x-index l.initial.x-items) ++ drop l.x-index l.initial.x-items

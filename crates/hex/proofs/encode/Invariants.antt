@@ -1,7 +1,0 @@
-use Rattle.std.proofs.Common.{◌≡◌, ◌++◌, take}
-use Rattle.hex.specs.Digits.{digits_of}
-use Rattle.hex.specs.Buffers.{contents}
-use Rattle.hex.proofs.encode.Given as goal
-
-abbrev pub invariant-loop-byte : goal.invariant-loop-byte
-invariant-loop-byte l = contents l.text ≡ take 8226 (contents l.initial.text ++ digits_of (take l.byte-index l.bytes))
