@@ -1,4 +1,5 @@
 //! One cipher of the three, chosen at run time.
+#![tactic(auto)]
 ghost use Rattle.std.specs.Prelude.{◌≡◌, refl};
 ghost use Rattle.cipher.specs.Cipher.{stand_in};
 ghost use Rattle.skinny.specs.Skinny.{skinny as skinnyOf};

@@ -1,4 +1,6 @@
 //! Bytes, 16-byte blocks, the 56-bit counter, padding and the map G: the parts that every mode is made of.
+#![tactic(auto)]
+
 ghost use Rattle.std.specs.Prelude.{◌≡◌, ◌+◌, ◌-◌, ◌*◌, ◌/◌, ◌%◌, ◌^◌, ◌<◌, ◌++◌, length, Decides};
 ghost use Rattle.byte_blocks.specs.Bytes.{xors, g_byte, g_of};
 ghost use Rattle.byte_blocks.specs.Counter.{stepped, counter_bytes};

@@ -1,4 +1,6 @@
 //! Hexadecimal lines: the questions asked of every line, its digits as bytes, bytes as small digits, and the faults of a line.
+#![tactic(auto)]
+
 ghost use Rattle.std.specs.Prelude.{◌≡◌, ◌<◌, ◌++◌, take};
 ghost use Rattle.std.specs.Option.{unwrap_or};
 ghost use Rattle.hex_lines.specs.Digits.{digit_value, first_bad, line_check, digit_of, digits_of, ReadBack};

@@ -1,4 +1,5 @@
 //! Lines of frames in hexadecimal: what a session answers to each.
+#![tactic(auto)]
 mod frame;
 pub mod key_line;
 mod service;

@@ -1,4 +1,5 @@
 //! What every mode has: its meaning, its costs, and the questions before its work.
+#![tactic(auto)]
 ghost use Rattle.std.specs.Prelude.{◌≡◌, length, if◌then◌else◌, Decides};
 ghost use Rattle.refusals.specs.Refusals.{first_no, answer_number};
 ghost use Rattle.cipher.specs.Cipher.{Called};

@@ -1,4 +1,5 @@
 //! Published vectors and cases that are run.
+#![tactic(auto)]
 mod posts;
 mod published;
 mod sizes;

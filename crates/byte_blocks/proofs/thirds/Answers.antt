@@ -13,5 +13,5 @@ slice-bounds-r-end-3 c =
 pub returns : goal.returns
 returns c =
     three_parts c.args.x.now c.args.y.now c.args.z.now _ _ _
-    c.copy-from-slice.ensures.after c.copy-from-slice-2.ensures.after c.copy-from-slice-3.ensures.after
+    c.copy_from_slice.ensures.after c.copy_from_slice-2.ensures.after c.copy_from_slice-3.ensures.after
     c.told-x c.told-y

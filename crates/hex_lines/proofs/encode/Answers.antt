@@ -13,11 +13,11 @@ loop-byte-init c = contents_alone c.args.text.now
 pub loop-byte-preserved : goal.loop-byte-preserved
 loop-byte-preserved c =
     write_more 8226 (contents c.args.text.now) (contents c.loop-byte.text) (contents c.push.new.self) (contents c.push-in-loop-byte.new.self) c.args.bytes.now c.loop-byte.byte-index _ _ (omega arith) c.loop-byte.invariant
-    c.small-digit.ensures c.small-digit-in-loop-byte.ensures c.push.ensures c.push-in-loop-byte.ensures
+    c.small_digit.ensures c.small_digit-in-loop-byte.ensures c.push.ensures c.push-in-loop-byte.ensures
 
 pub returns : goal.returns
 returns c =
     record {
-      back = read_back c.args.bytes.now (λ i. let f = c.type-inv.bytes i in omega arith);
+      back = read_back c.args.bytes.now (λ i. let f = c.ok.bytes i in omega arith);
       digits = c.loop-byte.invariant ∙ ap (λ l. take 8226 (contents c.args.text.now ++ digits_of l)) (take_all c.loop-byte.byte-index c.args.bytes.now (omega arith));
     }

@@ -13,7 +13,7 @@ returns-then-is-none c =
 pub loop-place-preserved : goal.loop-place-preserved
 loop-place-preserved c =
     let here = at_drop_more (first_bad c.loop-place.place) c.args.line.now c.loop-place.place 0 (omega arith) in
-    let good : is_some (digit_value (get_or c.args.line.now c.loop-place.place 0)) ≡ true = ap is_some (sym c.digit.ensures) ∙ c.if-is-none.ensures in
+    let good : is_some (digit_value (get_or c.args.line.now c.loop-place.place 0)) ≡ true = ap is_some (sym c.digit.ensures) ∙ c.if-is_none.ensures in
     sym (cond-true _ _ _ good) ∙ sym here ∙ c.loop-place.invariant
 
 pub returns : goal.returns

@@ -13,6 +13,6 @@ returns c =
     let long : length (take len bytes) ≡ len = length-take-le len bytes (omega arith) in
     let whole : n - 0 ≡ n = omega arith in
     let cut : take n more ≡ take (8226 - length (take len bytes)) more = take_room more n (8226 - length (take len bytes)) (omega arith) in
-    take-put_mid len (len + n - len) bytes c.copy-from-slice.new.self (len + n) (omega arith) (omega arith)
-    ∙ ap (λ p. take len bytes ++ p) (c.copy-from-slice.ensures.after ∙ ap (λ k. take k more) whole ∙ cut)
+    take-put_mid len (len + n - len) bytes c.copy_from_slice.new.self (len + n) (omega arith) (omega arith)
+    ∙ ap (λ p. take len bytes ++ p) (c.copy_from_slice.ensures.after ∙ ap (λ k. take k more) whole ∙ cut)
     ∙ sym (take_behind 8226 (take len bytes) more (omega arith))
