@@ -2,13 +2,13 @@ use Rattle.std.proofs.Common.{length, ap, ◌∙◌}
 use Rattle.byte_blocks.proofs.Leaves.{three_parts, room_two, room_three}
 use Rattle.byte_blocks.proofs.thirds.Goals as goal
 
-pub slice-bounds-r-end-2 : goal.slice-bounds-r-end-2
-slice-bounds-r-end-2 c = room_two c.copy-from-slice.new.self c.copy-from-slice.ensures.len
+pub slice_bounds-r-end-2 : goal.slice_bounds-r-end-2
+slice_bounds-r-end-2 c = room_two c.copy_from_slice.new.self c.copy_from_slice.ensures.len
 
-pub slice-bounds-r-end-3 : goal.slice-bounds-r-end-3
-slice-bounds-r-end-3 c =
-    room_three c.copy-from-slice.new.self c.copy-from-slice-2.new.self c.copy-from-slice.ensures.len
-    (ap length c.copy-from-slice-2.ensures.after ∙ c.told-y)
+pub slice_bounds-r-end-3 : goal.slice_bounds-r-end-3
+slice_bounds-r-end-3 c =
+    room_three c.copy_from_slice.new.self c.copy_from_slice-2.new.self c.copy_from_slice.ensures.len
+    (ap length c.copy_from_slice-2.ensures.after ∙ c.told-y)
 
 pub returns : goal.returns
 returns c =

@@ -18,6 +18,6 @@ loop-byte-preserved c =
 pub returns : goal.returns
 returns c =
     record {
-      back = read_back c.args.bytes.now (λ i. let f = c.ok.bytes i in omega arith);
+      back = read_back c.args.bytes.now (λ i. let f = c.type_inv.bytes i in omega arith);
       digits = c.loop-byte.invariant ∙ ap (λ l. take 8226 (contents c.args.text.now ++ digits_of l)) (take_all c.loop-byte.byte-index c.args.bytes.now (omega arith));
     }

@@ -4,10 +4,10 @@ use Rattle.std.proofs.lemmas.Bool.{cond-true, cond-false}
 use Rattle.hex_lines.specs.Digits.{digit_value, first_bad}
 use Rattle.hex_lines.proofs.find_bad.Goals as goal
 
-pub returns-then-is-none : goal.returns-then-is-none
-returns-then-is-none c =
+pub returns-then-is_none : goal.returns-then-is_none
+returns-then-is_none c =
     let here = at_drop_more (first_bad c.loop-place.place) c.args.line.now c.loop-place.place 0 (omega arith) in
-    let bad : is_some (digit_value (get_or c.args.line.now c.loop-place.place 0)) ≡ false = ap is_some (sym c.digit.ensures) ∙ c.if-is-none.ensures in
+    let bad : is_some (digit_value (get_or c.args.line.now c.loop-place.place 0)) ≡ false = ap is_some (sym c.digit.ensures) ∙ c.if-is_none.ensures in
     sym (cond-false _ _ _ bad) ∙ sym here ∙ c.loop-place.invariant
 
 pub loop-place-preserved : goal.loop-place-preserved

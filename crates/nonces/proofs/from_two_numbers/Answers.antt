@@ -9,5 +9,5 @@ returns c =
     let high : c.args.high < 2 ^ 64 = search rules in
     let low : c.args.low < 2 ^ 64 = search rules in
     let value : c.joined.result ≡ big_endian c.args.high ++ big_endian c.args.low =
-    c.joined.ensures ∙ ap₂ (λ (x y : List ℕ). x ++ y) c.to-be-bytes.ensures c.to-be-bytes-2.ensures in
+    c.joined.ensures ∙ ap₂ (λ (x y : List ℕ). x ++ y) c.to_be_bytes.ensures c.to_be_bytes-2.ensures in
     record { value = value; back = ap words value ∙ ap₂ {C = ℕ × ℕ} (λ (x y : ℕ). (x, y)) (number_big_endian _ high) (number_big_endian _ low) }

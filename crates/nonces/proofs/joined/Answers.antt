@@ -13,10 +13,10 @@ room x l = omega (arith, length-append x zeros)
 put : (x y : List ℕ) → length x ≡ 8 → put_mid 8 8 (x ++ zeros) y ≡ x ++ y
 put x y l = rw (take_at x zeros 8 l, drop_at x zeros 8 l, append-nil y)
 
-pub slice-bounds-r-end-2 : goal.slice-bounds-r-end-2
-slice-bounds-r-end-2 c = room c.copy-from-slice.new.self c.copy-from-slice.ensures.len
+pub slice_bounds-r-end-2 : goal.slice_bounds-r-end-2
+slice_bounds-r-end-2 c = room c.copy_from_slice.new.self c.copy_from_slice.ensures.len
 
 pub returns : goal.returns
 returns c =
-    put c.copy-from-slice.new.self c.copy-from-slice-2.new.self c.copy-from-slice.ensures.len
-    ∙ ap₂ (λ (x y : List ℕ). x ++ y) c.copy-from-slice.ensures.after c.copy-from-slice-2.ensures.after
+    put c.copy_from_slice.new.self c.copy_from_slice-2.new.self c.copy_from_slice.ensures.len
+    ∙ ap₂ (λ (x y : List ℕ). x ++ y) c.copy_from_slice.ensures.after c.copy_from_slice-2.ensures.after

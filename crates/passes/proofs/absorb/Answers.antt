@@ -14,11 +14,11 @@ pub loop-rest-preserved : goal.loop-rest-preserved
 loop-rest-preserved g c =
     absorbing_more c.loop-rest.invariant _ _ _ _ _ c.loop-rest-test.true
     (c.step-c.ensures ∙ ap stepped c.step.ensures)
-    c.absorb-pair.ensures.state (take_rest c.loop-rest.rest.now 32) c.absorb-pair.ensures.called
+    c.absorb_pair.ensures.state (take_rest c.loop-rest.rest.now 32) c.absorb_pair.ensures.called
 
 pub returns-then-rest-gt16 : goal.returns-then-rest-gt16
 returns-then-rest-gt16 g c =
-    let p = c.absorb-pair-then-rest-gt16 in
+    let p = c.absorb_pair-then-rest-gt16 in
     let r = c.loop-rest.rest.now in
     let m = g.C.Cipher in
     let st = ap (λ (y : List ℕ). enciphered (m.answer c.loop-rest.cipher) c.args.key.now (padded y) c.args.domain c.loop-rest.c (xors c.loop-rest.s (padded (take 16 r)))) (take_rest r 16) in
@@ -27,5 +27,5 @@ returns-then-rest-gt16 g c =
 
 pub returns-else-rest-gt16 : goal.returns-else-rest-gt16
 returns-else-rest-gt16 g c =
-    let t = absorbing_one c.loop-rest.invariant _ c.if-rest-gt16.false (c.xor-into.ensures ∙ ap (xors c.loop-rest.s) c.pad.ensures) in
+    let t = absorbing_one c.loop-rest.invariant _ c.if-rest-gt16.false (c.xor_into.ensures ∙ ap (xors c.loop-rest.s) c.pad.ensures) in
     record { state = t.0; last = t.1; called = t.2 }

@@ -4,8 +4,8 @@ use Rattle.cipher.proofs.Calls.{called_then, called_as}
 use Rattle.romulus_m.proofs.Pairs.{gathered_even, gathered_odd, last_even, last_odd}
 use Rattle.romulus_m.proofs.gather.Goals as goal
 
-pub returns-then-block-count-eq0 : goal.returns-then-block-count-eq0
-returns-then-block-count-eq0 g c =
+pub returns-then-block_count-eq0 : goal.returns-then-block_count-eq0
+returns-then-block_count-eq0 g c =
     let ad = c.args.ad.now in
     let m = c.args.message.now in
     let f = g.C.Cipher.answer c.args.cipher.now in
@@ -19,8 +19,8 @@ returns-then-block-count-eq0 g c =
       called = called_as _ (omega arith) (called_then a.called b.called);
     }
 
-pub returns-else-block-count-eq0 : goal.returns-else-block-count-eq0
-returns-else-block-count-eq0 g c =
+pub returns-else-block_count-eq0 : goal.returns-else-block_count-eq0
+returns-else-block_count-eq0 g c =
     let ad = c.args.ad.now in
     let m = c.args.message.now in
     let f = g.C.Cipher.answer c.args.cipher.now in

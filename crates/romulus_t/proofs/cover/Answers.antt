@@ -12,16 +12,16 @@ pub loop-text-preserved : goal.loop-text-preserved
 loop-text-preserved g c =
     let i = c.loop-text.i in
     let sixteen : i + 16 - i ≡ 16 = omega arith in
-    let part = c.cover-part.ensures in
-    let next = c.next-key.ensures in
+    let part = c.cover_part.ensures in
+    let next = c.next_key.ensures in
     covering_more (g.met.C.Cipher.sixteen _) c.loop-text.invariant _ _ _ _ _ c.loop-text-test.true c.step-c.ensures
     (ap (λ (j : ℕ). take j (drop i c.loop-text.text)) sixteen) sixteen part.part part.called next.key next.called
 
 pub returns : goal.returns
 unfolding ciphertext_of
 returns g c =
-    let first = c.first-key-block-key.ensures in
-    let t = covering_last (g.met.C.Cipher.sixteen _) c.loop-text.invariant _ _ c.loop-text-test.false (take_rest c.loop-text.text c.loop-text.i) c.cover-part-2.ensures.part c.cover-part-2.ensures.called in
+    let first = c.first_key-block_key.ensures in
+    let t = covering_last (g.met.C.Cipher.sixteen _) c.loop-text.invariant _ _ c.loop-text-test.false (take_rest c.loop-text.text c.loop-text.i) c.cover_part-2.ensures.part c.cover_part-2.ensures.called in
     let text = rw (first.key, first.called.same) at t.0 in
     record {
       text = text;
@@ -29,8 +29,8 @@ returns g c =
       called = called_as _ (omega (arith, c.loop-text.invariant.within, c.loop-text.invariant.long)) (called_then first.called t.1);
     }
 
-pub returns-then-is-empty : goal.returns-then-is-empty
-returns-then-is-empty g c =
+pub returns-then-is_empty : goal.returns-then-is_empty
+returns-then-is_empty g c =
     let none : length c.args.text.now ≡ 0 = search rules in
     record {
       text = covered_none _ _ _ c.args.text.now none;

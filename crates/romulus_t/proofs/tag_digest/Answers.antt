@@ -10,8 +10,8 @@ returns g c =
     let n = c.args.nonce.now in
     let ad = c.args.ad.now in
     let text = c.args.text.now in
-    let blocks : c.div-ceil.result ≡ message_blocks (length text) = c.div-ceil.ensures ∙ omega arith in
-    let last : c.counter_bytes.result ≡ counter_bytes (counter (message_blocks (length text))) = c.counter_bytes.ensures ∙ ap counter_bytes (c.counter-at.ensures ∙ ap counter blocks) in
-    let taken = absorbs_both (absorbs_both c.absorb-padded.ensures c.absorb-padded-2.ensures) c.absorb-block.ensures in
+    let blocks : c.div_ceil.result ≡ message_blocks (length text) = c.div_ceil.ensures ∙ omega arith in
+    let last : c.counter_bytes.result ≡ counter_bytes (counter (message_blocks (length text))) = c.counter_bytes.ensures ∙ ap counter_bytes (c.counter_at.ensures ∙ ap counter blocks) in
+    let taken = absorbs_both (absorbs_both c.absorb_padded.ensures c.absorb_padded-2.ensures) c.absorb_block.ensures in
     let all = absorbs_all (tag_input n ad text) c.counter_bytes.result _ c.new-hasher.ensures taken (input_parts n ad text _ last) c.finish.ensures.digest c.finish.ensures.called in
     record { digest = all.0; called = all.1 }

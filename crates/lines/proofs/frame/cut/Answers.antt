@@ -11,6 +11,6 @@ returns c =
     record {
       fits = omega arith;
       nonce = named_is 16 0 body (omega arith);
-      ad = c.split-at.ensures.front ∙ ap (take (ad_length body)) (take_rest body 18);
-      text = c.split-at.ensures.back ∙ ap (drop (ad_length body)) (take_rest body 18) ∙ drop-drop (ad_length body) 18 body;
+      ad = c.split_at.ensures.front ∙ ap (take (ad_length body)) (take_rest body 18);
+      text = c.split_at.ensures.back ∙ ap (drop (ad_length body)) (take_rest body 18) ∙ drop-drop (ad_length body) 18 body;
     }

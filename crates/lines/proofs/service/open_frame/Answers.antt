@@ -8,6 +8,6 @@ returns g c =
     let message = c.open.new.text in
     let h : contents c.extend.new.self ≡ message = pushed_whole 8226 [] message (omega arith) (rw c.new-result.ensures.empty at c.extend.ensures) in
     record {
-      opens = rw h (rw c.copy-from-slice.ensures.after at c.if-not-open.ensures);
+      opens = rw h (rw c.copy_from_slice.ensures.after at c.if-not-open.ensures);
       short = omega (arith, ap length h);
     }

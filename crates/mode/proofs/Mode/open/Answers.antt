@@ -8,9 +8,9 @@ use Rattle.mode.proofs.Mode.open.Goals as goal
 
 pub returns : goal.returns
 returns g c =
-    let op = c.open-in-place-right in
+    let op = c.open_in_place-right in
     let told = c.costs-costs.ensures in
-    let copied = c.copy-from-slice.ensures.after in
+    let copied = c.copy_from_slice.ensures.after in
     let cost : c.judged.result.cost ≡ (verdict_outcome c.costs-costs.result op.result).cost = ap (λ (o : Outcome). o.cost) c.judged.ensures in
     let k = g.met.Self.Mode.keeps in
     let ad = length c.args.ad.now in
@@ -19,7 +19,7 @@ returns g c =
       answered =
           judged_answer g.Self.Mode.scheme (g.C.Cipher.answer c.args.cipher.now) c.args.key.now c.args.nonce.now c.args.ad.now c.args.text.now c.args.tag.now c.args.out.now
           _ op.result c.judged.result op.new.text
-          (sym c.ask-sizes.ensures ∙ c.in-default.is)
+          (sym c.ask_sizes.ensures ∙ c.in_default.is)
           (c.judged.ensures ∙ ap (λ (x : Costs). verdict_outcome x op.result) told)
           (rw (c.sixteen.ensures, c.sixteen-2.ensures, c.sixteen-3.ensures, copied) at op.ensures.opened);
       called = called_as c.judged.result.cost (rw (copied, ← told) (sym (cost ∙ verdict_cost c.costs-costs.result op.result))) op.ensures.called;

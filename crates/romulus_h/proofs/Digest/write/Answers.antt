@@ -13,4 +13,4 @@ two_parts o x y a b lo lx ea eb =
 pub returns : goal.returns
 returns c =
     let d = c.args.self.now in
-    two_parts c.args.place.now d.left d.right _ _ c.requires (omega arith) c.copy-from-slice.ensures.after c.copy-from-slice-2.ensures.after
+    two_parts c.args.place.now d.left d.right _ _ c.requires (omega arith) c.copy_from_slice.ensures.after c.copy_from_slice-2.ensures.after

@@ -6,7 +6,7 @@ pub loop-rest-init : goal.loop-rest-init
 loop-rest-init g c = taking_none _ _ _ _ (g.met.C.Cipher.bounded _)
 
 pub loop-rest-preserved : goal.loop-rest-preserved
-loop-rest-preserved g c = taking_more c.loop-rest.invariant _ _ c.loop-rest-test.true c.pad.ensures (take_rest c.loop-rest.rest.now 16) c.absorb-block.ensures
+loop-rest-preserved g c = taking_more c.loop-rest.invariant _ _ c.loop-rest-test.true c.pad.ensures (take_rest c.loop-rest.rest.now 16) c.absorb_block.ensures
 
 pub returns : goal.returns
 returns g c =

@@ -7,8 +7,8 @@ use Rattle.romulus_h.proofs.Hasher.compress.Goals as goal
 pub returns : goal.returns
 unfolding left_of right_of
 returns g c =
-    let one = c.fed-forward-right.ensures in
-    let two = c.fed-forward-self.ensures in
+    let one = c.fed_forward-right.ensures in
+    let two = c.fed_forward-self.ensures in
     record {
       left = rw (c.thirds-tweakey.ensures, one.called.same) at two.value;
       right = rw (c.thirds-tweakey.ensures, c.mark.ensures) at one.value;

@@ -10,10 +10,10 @@ whole : (t rest : List ℕ) → rest ≡ drop (length t / 16 * 16) t → take (l
 whole t rest e = ap (λ (x : List ℕ). take (length t / 16 * 16) t ++ x) e ∙ take-append-drop (length t / 16 * 16) t
 
 pub end-requires : goal.end-requires
-end-requires g c = short c.args.text.now c.absorb-blocks-rest.result.now c.absorb-blocks-rest.ensures.rest
+end-requires g c = short c.args.text.now c.absorb_blocks-rest.result.now c.absorb_blocks-rest.ensures.rest
 
 pub returns : goal.returns
 returns g c =
-    let p = c.absorb-blocks-rest.ensures in
-    let e = absorbs_end c.args.text.now c.absorb-blocks-rest.result.now _ p.absorbed (whole c.args.text.now c.absorb-blocks-rest.result.now p.rest) c.end.ensures.digest c.end.ensures.called in
+    let p = c.absorb_blocks-rest.ensures in
+    let e = absorbs_end c.args.text.now c.absorb_blocks-rest.result.now _ p.absorbed (whole c.args.text.now c.absorb_blocks-rest.result.now p.rest) c.end.ensures.digest c.end.ensures.called in
     record { digest = e.0; called = e.1 }

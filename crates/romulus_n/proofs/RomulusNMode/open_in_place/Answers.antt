@@ -22,8 +22,8 @@ returns g c =
     let found = (n_finds f k n ad).found ct t in
     let long : length c.walk-c.new.text ≡ length ct = omega arith in
     let text : c.walk-c.new.text ≡ found = rw (st.state, st.called.same) at wk.text in
-    let tag : c.g-block.result ≡ tag_of f k n ad found =
-    c.g-block.ensures ∙ ap g_of (rw (long, wk.last, wk.state, wk.called.same, st.state, st.called.same) at en.state) ∙ sym (tag_found f k n ad ct t) in
+    let tag : c.g_block.result ≡ tag_of f k n ad found =
+    c.g_block.ensures ∙ ap g_of (rw (long, wk.last, wk.state, wk.called.same, st.state, st.called.same) at en.state) ∙ sym (tag_found f k n ad ct t) in
     record {
       opened =
           judged_opened n_scheme f k n ad (n_finds f k n ad) ct t c.settle.new.text c.settle.result (rw tag at se.verdict) (rw text at se.text);

@@ -17,8 +17,8 @@ returns g c =
     let en = c.end.ensures in
     let long : length c.walk-c.new.text ≡ length m = omega arith in
     let text : c.walk-c.new.text ≡ ciphertext_of f k n ad m = rw (st.state, st.called.same) at wk.text in
-    let tag : c.g-block.result ≡ tag_of f k n ad m =
-    c.g-block.ensures ∙ ap g_of (rw (long, wk.last, wk.state, wk.called.same, st.state, st.called.same) at en.state) in
+    let tag : c.g_block.result ≡ tag_of f k n ad m =
+    c.g_block.ensures ∙ ap g_of (rw (long, wk.last, wk.state, wk.called.same, st.state, st.called.same) at en.state) in
     record {
       seals = pairs (sym text) (sym tag);
       called = called_as (n_cost (length ad) (length m)) (omega arith) (called_then (called_then st.called wk.called) en.called);

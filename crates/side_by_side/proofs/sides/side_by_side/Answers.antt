@@ -14,13 +14,13 @@ returns-in-Ok-new g c =
     let m = g.M.Mode.scheme in
     let ok = g.met.M.Mode.keeps in
     let x : Making = making g.C.Cipher.answer g.C.Cipher.count g.S.NonceSource.pending c.args.one c.args.key.now in
-    let y : Making = making g.D.Cipher.answer g.D.Cipher.count g.R.NonceSource.pending c.args.two c.args.other-key.now in
+    let y : Making = making g.D.Cipher.answer g.D.Cipher.count g.R.NonceSource.pending c.args.two c.args.other_key.now in
     let es : List Event = whole c.args.turns.now c.serve.new.turns c.retire-one.result.reading in
-    let ds : List Event = whole c.args.other-turns.now c.serve-in-Ok-new.new.turns c.retire-two.result.reading in
+    let ds : List Event = whole c.args.other_turns.now c.serve-in-Ok-new.new.turns c.retire-two.result.reading in
     let t : Standing = standing_of g.C.Cipher.answer g.C.Cipher.count g.S.NonceSource.pending c.serve.new.post in
     let u : Standing = standing_of g.D.Cipher.answer g.D.Cipher.count g.R.NonceSource.pending c.serve-in-Ok-new.new.post in
     let a : Run m (fresh x) es t = whole_run m x _ (transcript c.args.turns.now c.serve.new.turns) t (told c.retire-one.result.reading) c.in-Ok.ensures.stands c.serve.ensures.served c.retire-one.ensures.reading in
-    let b : Run m (fresh y) ds u = whole_run m y _ (transcript c.args.other-turns.now c.serve-in-Ok-new.new.turns) u (told c.retire-two.result.reading) c.in-Ok-new.ensures.stands c.serve-in-Ok-new.ensures.served c.retire-two.ensures.reading in
+    let b : Run m (fresh y) ds u = whole_run m y _ (transcript c.args.other_turns.now c.serve-in-Ok-new.new.turns) u (told c.retire-two.result.reading) c.in-Ok-new.ensures.stands c.serve-in-Ok-new.ensures.served c.retire-two.ensures.reading in
     record {
       promised =
           record {

@@ -17,8 +17,8 @@ returns g c =
     let stands : Post g.row.M.Denot g.row.C.Denot g.row.S.Denot → Standing = standing_of g.C.Cipher.answer g.C.Cipher.count g.S.NonceSource.pending in
     elim c.match-turn.branch [
       | in-Seal w ↦
-          let k : asked c.args.turn.now ≡ Seal w.as-slice.result.now w.as-slice-in-Seal.result.now w.as-mut-slice.result.now w.as-mut-slice-in-Seal.result.now =
-          ap call_of w.in-Seal.is ∙ cc (w.as-slice.ensures.value, w.as-slice-in-Seal.ensures.value, w.as-mut-slice.ensures.value, w.as-mut-slice-in-Seal.ensures.value) in
+          let k : asked c.args.turn.now ≡ Seal w.as_slice.result.now w.as_slice-in-Seal.result.now w.as_mut_slice.result.now w.as_mut_slice-in-Seal.result.now =
+          ap call_of w.in-Seal.is ∙ cc (w.as_slice.ensures.value, w.as_slice-in-Seal.ensures.value, w.as_mut_slice.ensures.value, w.as_mut_slice-in-Seal.ensures.value) in
           record {
             step =
                 stepped_to stands g.M.Mode.scheme _ _ (asked c.args.turn.now) _ _ _ _ w.post-is k
@@ -29,8 +29,8 @@ returns g c =
             mode = ap (λ p. p.mode) w.post-is ∙ w.seal.ensures.mode;
           }
       | in-Open w ↦
-          let k : asked c.args.turn.now ≡ Open w.as-slice-in-Open.result.now w.as-slice-in-Open-2.result.now w.as-slice-in-Open-3.result.now w.as-slice-in-Open-4.result.now w.as-mut-slice-in-Open.result.now =
-          ap call_of w.in-Open.is ∙ cc (w.as-slice-in-Open.ensures.value, w.as-slice-in-Open-2.ensures.value, w.as-slice-in-Open-3.ensures.value, w.as-slice-in-Open-4.ensures.value, w.as-mut-slice-in-Open.ensures.value) in
+          let k : asked c.args.turn.now ≡ Open w.as_slice-in-Open.result.now w.as_slice-in-Open-2.result.now w.as_slice-in-Open-3.result.now w.as_slice-in-Open-4.result.now w.as_mut_slice-in-Open.result.now =
+          ap call_of w.in-Open.is ∙ cc (w.as_slice-in-Open.ensures.value, w.as_slice-in-Open-2.ensures.value, w.as_slice-in-Open-3.ensures.value, w.as_slice-in-Open-4.ensures.value, w.as_mut_slice-in-Open.ensures.value) in
           record {
             step =
                 stepped_to stands g.M.Mode.scheme _ _ (asked c.args.turn.now) _ _ _ _ w.post-is k
@@ -45,7 +45,7 @@ returns g c =
             step =
                 stepped_to stands g.M.Mode.scheme _ _ (asked c.args.turn.now) _ _ _ _ w.post-is (ap call_of w.in-ReadOut.is)
                 (ap₂ (λ (q : Request) (r : Answer). reply_with (places_of q) r) (ap (λ (t : Turn). t.request) w.turn-is) w.answer-is)
-                w.read-out.ensures;
+                w.read_out.ensures;
             kept = ap (λ (t : Turn). inputs_of t.request) w.turn-is;
             mode = ap (λ p. p.mode) w.post-is;
           }

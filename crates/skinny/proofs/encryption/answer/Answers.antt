@@ -21,8 +21,8 @@ loop-i-preserved c =
     let b = c.args.block.now in
     let n : ℕ = 4 * c.loop-i.i in
     let e : n + 4 ≡ 4 * (c.loop-i.i + 1) = omega arith in (
-      subst (λ (m : ℕ). InRound T m c.next-four.result.1) e (c.next-four.ensures.next T n c.loop-i.invariant.0),
-      c.four-rounds-s.ensures T b (c.next-four.ensures.tweakeys T n c.loop-i.invariant.0) c.loop-i.invariant.1 ∙ ap (rounds T b) e,
+      subst (λ (m : ℕ). InRound T m c.next_four.result.1) e (c.next_four.ensures.next T n c.loop-i.invariant.0),
+      c.four_rounds-s.ensures T b (c.next_four.ensures.tweakeys T n c.loop-i.invariant.0) c.loop-i.invariant.1 ∙ ap (rounds T b) e,
     )
 
 pub returns : goal.returns

@@ -12,7 +12,7 @@ pub returns : goal.returns
 returns c T b e h =
     let n = c.args.n in
     let k : (i : ℕ) → List ℕ = λ i. get_or c.args.tweakeys.now i [] in
-    let s₁ = more T b n (n + 1) _ (k 0) _ _ c.round-s1.ensures c.round-constant.ensures (ap (λ l. get_or l 0 []) e) h (omega arith) in
-    let s₂ = more T b (n + 1) (n + 2) _ (k 1) _ _ c.round-s2.ensures c.round-constant-2.ensures (ap (λ l. get_or l 1 []) e) s₁ (omega arith) in
-    let s₃ = more T b (n + 2) (n + 3) _ (k 2) _ _ c.round-s3.ensures c.round-constant-3.ensures (ap (λ l. get_or l 2 []) e) s₂ (omega arith) in
-    more T b (n + 3) (n + 4) _ (k 3) _ _ c.round.ensures c.round-constant-4.ensures (ap (λ l. get_or l 3 []) e) s₃ (omega arith)
+    let s₁ = more T b n (n + 1) _ (k 0) _ _ c.round-s1.ensures c.round_constant.ensures (ap (λ l. get_or l 0 []) e) h (omega arith) in
+    let s₂ = more T b (n + 1) (n + 2) _ (k 1) _ _ c.round-s2.ensures c.round_constant-2.ensures (ap (λ l. get_or l 1 []) e) s₁ (omega arith) in
+    let s₃ = more T b (n + 2) (n + 3) _ (k 2) _ _ c.round-s3.ensures c.round_constant-3.ensures (ap (λ l. get_or l 2 []) e) s₂ (omega arith) in
+    more T b (n + 3) (n + 4) _ (k 3) _ _ c.round.ensures c.round_constant-4.ensures (ap (λ l. get_or l 3 []) e) s₃ (omega arith)

@@ -8,7 +8,7 @@ pub returns : goal.returns
 returns c =
     let s = c.args.self.now.held in
     let line = c.args.line.now in
-    let text = contents c.write-answer.result in
-    let s' = c.reply-and-clear.new.self.held in
-    let answered : Answered s line text s' c.reply-and-clear.new.line = search rules in
-    record { answered = answered; lawful = lawful s line text s' answered.answers answered.held; wiped = c.reply-and-clear.ensures.wiped }
+    let text = contents c.write_answer.result in
+    let s' = c.reply_and_clear.new.self.held in
+    let answered : Answered s line text s' c.reply_and_clear.new.line = search rules in
+    record { answered = answered; lawful = lawful s line text s' answered.answers answered.held; wiped = c.reply_and_clear.ensures.wiped }

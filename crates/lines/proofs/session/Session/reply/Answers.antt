@@ -6,7 +6,7 @@ use Rattle.lines.proofs.session.Session.reply.Goals as goal
 
 pub serve-requires : goal.serve-requires
 serve-requires c =
-    let d = c.in-ok-decode.ensures in
-    let frame = c.as-slice.result.now in
-    let long = ap length (c.as-slice.ensures ∙ d.1) in
-    (asked_frame c.args.self.now.held.key frame (meaning c.in-ok-request.request) (omega (arith, long, bytes_short c.args.line.now d.0)) c.in-ok-request.ensures).small
+    let d = c.in_ok-decode.ensures in
+    let frame = c.as_slice.result.now in
+    let long = ap length (c.as_slice.ensures ∙ d.1) in
+    (asked_frame c.args.self.now.held.key frame (meaning c.in_ok-request.request) (omega (arith, long, bytes_short c.args.line.now d.0)) c.in_ok-request.ensures).small

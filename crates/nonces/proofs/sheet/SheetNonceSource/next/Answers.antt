@@ -12,5 +12,5 @@ pub returns-then-not-stands : goal.returns-then-not-stands
 returns-then-not-stands c =
     let xs : List ℕ = c.loop-self.self.rest.now in
     let two : 2 ≤ length c.loop-self.self.rest.now = search rules in
-    let n : c.joined.result ≡ first xs = c.joined.ensures ∙ ap₂ (λ (x y : List ℕ). x ++ y) c.to-be-bytes.ensures c.to-be-bytes-then-not-stands.ensures in
+    let n : c.joined.result ≡ first xs = c.joined.ensures ∙ ap₂ (λ (x y : List ℕ). x ++ y) c.to_be_bytes.ensures c.to_be_bytes-then-not-stands.ensures in
     c.loop-self.invariant ∙ given xs two (sym c.if-not-stands.ensures) ∙ ap (λ (z : List ℕ). z ∷ last_places (sheet_nonces (rest xs))) (sym n)

@@ -3,8 +3,8 @@ use Rattle.std.proofs.lemmas.List.{length-replicate}
 use Rattle.romulus.proofs.Waiting.{part_cleared, cleared_more, rest_kept, waiting_less}
 use Rattle.romulus.proofs.ahead.Ahead.clear.Goals as goal
 
-pub invariant-of-self : goal.invariant-of-self
-invariant-of-self c =
+pub invariant_of-self : goal.invariant_of-self
+invariant_of-self c =
     let self = c.args.self.now in
     let k = c.min.result in
     let all : length self.bytes ≡ 8192 = omega arith in

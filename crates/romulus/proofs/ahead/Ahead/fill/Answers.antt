@@ -2,8 +2,8 @@ use Rattle.std.proofs.Common.{◌≡◌, ℕ, ◌-◌, ◌≤◌, ltb, length, s
 use Rattle.romulus.proofs.Waiting.{length_part, tail_cleared, tail_long}
 use Rattle.romulus.proofs.ahead.Ahead.fill.Goals as goal
 
-pub invariant-of-self : goal.invariant-of-self
-invariant-of-self g c =
+pub invariant_of-self : goal.invariant_of-self
+invariant_of-self g c =
     let all : length c.read.new.buf ≡ 8192 = search rules in
     let within : c.in-Ok.n ≤ 8192 = search rules in
     let first : c.loop.self.at ≡ 0 = c.loop.invariant.0 in
