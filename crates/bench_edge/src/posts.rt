@@ -21,9 +21,9 @@ fn seal_over<M: Mode, C: Cipher, S: NonceSource>(
     tag: &mut [u8],
     answers: &mut [u8],
 )
-    ensures { SealedOver scheme ad.now message.now
-        (between (standing_of answer count pending post.old) out.old tag.old)
-        (between (standing_of answer count pending post.new) out.new tag.new)
+    ensures { SealedOver M.scheme ad.now message.now
+        (between (standing_of C.answer C.count S.pending post.old) out.old tag.old)
+        (between (standing_of C.answer C.count S.pending post.new) out.new tag.new)
         answers.new }
 {
     for number in answers.iter_mut() {

@@ -34,8 +34,8 @@ pub fn encipher<C: Cipher>(
     c: u64,
     s: &mut [u8; 16],
 )
-    ensures state { s.new ≡ enciphered (answer cipher.old) key.now tweak.now domain c s.old }
-    ensures called { Called (answer cipher.old) (count cipher.old) 1 (answer cipher.new) (count cipher.new) }
+    ensures state { s.new ≡ enciphered (C.answer cipher.old) key.now tweak.now domain c s.old }
+    ensures called { Called (C.answer cipher.old) (C.count cipher.old) 1 (C.answer cipher.new) (C.count cipher.new) }
 {
     *s = cipher.encrypt(&tweakey(key, tweak, domain, c), s);
 }

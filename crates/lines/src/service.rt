@@ -53,7 +53,7 @@ impl Variant {
         ad: &[u8],
         text: &mut [u8],
     ) -> [u8; 16]
-        ensures { SealsTo (scheme_of self) (answer cipher.old) key.now nonce.now ad.now text.old text.new result }
+        ensures { SealsTo (scheme_of self) (C.answer cipher.old) key.now nonce.now ad.now text.old text.new result }
     {
         match self {
             Variant::RomulusN => RomulusN.seal_in_place(cipher, key, nonce, ad, text),
@@ -72,7 +72,7 @@ impl Variant {
         text: &mut [u8],
         tag: &[u8; 16],
     ) -> bool
-        ensures { Opened (scheme_of self) (answer cipher.old) key.now nonce.now ad.now text.old tag.now result text.new }
+        ensures { Opened (scheme_of self) (C.answer cipher.old) key.now nonce.now ad.now text.old tag.now result text.new }
     {
         match self {
             Variant::RomulusN => RomulusN.open_in_place(cipher, key, nonce, ad, text, tag),
@@ -119,7 +119,7 @@ pub(crate) fn seal_frame<C: Cipher>(
     parts: Parts<'_>,
 ) -> Buffer
     requires { length parts.ad.now + length parts.text.now ≤ 4077 }
-    ensures frame { contents result ≡ sealed_frame variant parts.entry.nonce parts.entry.ad.now ((scheme_of variant).frame (answer cipher.old) key.now parts.entry.nonce parts.entry.ad.now parts.entry.text.now) }
+    ensures frame { contents result ≡ sealed_frame variant parts.entry.nonce parts.entry.ad.now ((scheme_of variant).frame (C.answer cipher.old) key.now parts.entry.nonce parts.entry.ad.now parts.entry.text.now) }
     ensures short { length (contents result) ≤ 4112 }
 {
     let Parts {
@@ -142,7 +142,7 @@ pub(crate) fn open_frame<C: Cipher>(
     sealed: Sealed<'_>,
 ) -> Result<Buffer, Refusal>
     requires { length sealed.parts.text.now ≤ 4096 }
-    ensures opens { Opens (scheme_of variant) (answer cipher.old) key.now sealed.entry.parts.nonce sealed.entry.parts.ad.now sealed.entry.parts.text.now sealed.entry.tag (mode_reply result) }
+    ensures opens { Opens (scheme_of variant) (C.answer cipher.old) key.now sealed.entry.parts.nonce sealed.entry.parts.ad.now sealed.entry.parts.text.now sealed.entry.tag (mode_reply result) }
     ensures short { IfOk result (λ b. length (contents b) ≤ 4112) }
 {
     let Sealed { parts, tag } = sealed;
@@ -160,7 +160,7 @@ pub(crate) fn open_frame<C: Cipher>(
 
 /// The digest of a text.
 pub(crate) fn digest<C: Cipher>(cipher: &mut C, text: &[u8]) -> Buffer
-    ensures digest { contents result ≡ digest_of (answer cipher.old) text.now }
+    ensures digest { contents result ≡ digest_of (C.answer cipher.old) text.now }
     ensures short { length (contents result) ≤ 4112 }
 {
     let Digest { left, right } = Hasher::new().finish(cipher, text);

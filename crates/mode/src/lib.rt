@@ -145,8 +145,8 @@ pub trait Mode {
         ad: &[u8],
         text: &mut [u8],
     ) -> [u8; 16]
-        ensures seals { SealsTo scheme (answer cipher.old) key.now nonce.now ad.now text.old text.new result }
-        ensures called { Called (answer cipher.old) (count cipher.old) (scheme.costs (length ad.now) (length text.old)).seal (answer cipher.new) (count cipher.new) };
+        ensures seals { SealsTo scheme (C.answer cipher.old) key.now nonce.now ad.now text.old text.new result }
+        ensures called { Called (C.answer cipher.old) (C.count cipher.old) (scheme.costs (length ad.now) (length text.old)).seal (C.answer cipher.new) (C.count cipher.new) };
 
     /// Opens the text in its own place, and says whether the frame was right. A wrong one leaves zeros.
     fn open_in_place<C: Cipher>(
@@ -158,8 +158,8 @@ pub trait Mode {
         text: &mut [u8],
         tag: &[u8; 16],
     ) -> bool
-        ensures opened { Opened scheme (answer cipher.old) key.now nonce.now ad.now text.old tag.now result text.new }
-        ensures called { Called (answer cipher.old) (count cipher.old) (if result then (scheme.costs (length ad.now) (length text.old)).right else (scheme.costs (length ad.now) (length text.old)).wrong) (answer cipher.new) (count cipher.new) };
+        ensures opened { Opened scheme (C.answer cipher.old) key.now nonce.now ad.now text.old tag.now result text.new }
+        ensures called { Called (C.answer cipher.old) (C.count cipher.old) (if result then (scheme.costs (length ad.now) (length text.old)).right else (scheme.costs (length ad.now) (length text.old)).wrong) (C.answer cipher.new) (C.count cipher.new) };
 
     /// Seals a message into an output place and a tag place, after all questions on the sizes.
     fn seal<C: Cipher>(
@@ -172,8 +172,8 @@ pub trait Mode {
         out: &mut [u8],
         tag: &mut [u8],
     ) -> Outcome
-        ensures answered { SealAnswer scheme (answer cipher.old) key.now nonce.now ad.now message.now out.old tag.old (first_no (size_questions (length key.now) (length ad.now) (length message.now) (length out.old) (length tag.old) (length nonce.now))) result out.new tag.new }
-        ensures called { Called (answer cipher.old) (count cipher.old) result.cost (answer cipher.new) (count cipher.new) }
+        ensures answered { SealAnswer scheme (C.answer cipher.old) key.now nonce.now ad.now message.now out.old tag.old (first_no (size_questions (length key.now) (length ad.now) (length message.now) (length out.old) (length tag.old) (length nonce.now))) result out.new tag.new }
+        ensures called { Called (C.answer cipher.old) (C.count cipher.old) result.cost (C.answer cipher.new) (C.count cipher.new) }
         ensures kept { result.cost ≡ 0 → cipher.new ≡ cipher.old }
     {
         if let Some(refusal) = ask_sizes(
@@ -209,8 +209,8 @@ pub trait Mode {
         tag: &[u8],
         out: &mut [u8],
     ) -> Outcome
-        ensures answered { OpenAnswer scheme (answer cipher.old) key.now nonce.now ad.now text.now tag.now out.old (first_no (size_questions (length key.now) (length ad.now) (length text.now) (length out.old) (length tag.now) (length nonce.now))) result out.new }
-        ensures called { Called (answer cipher.old) (count cipher.old) result.cost (answer cipher.new) (count cipher.new) }
+        ensures answered { OpenAnswer scheme (C.answer cipher.old) key.now nonce.now ad.now text.now tag.now out.old (first_no (size_questions (length key.now) (length ad.now) (length text.now) (length out.old) (length tag.now) (length nonce.now))) result out.new }
+        ensures called { Called (C.answer cipher.old) (C.count cipher.old) result.cost (C.answer cipher.new) (C.count cipher.new) }
         ensures kept { result.cost ≡ 0 → cipher.new ≡ cipher.old }
     {
         if let Some(refusal) = ask_sizes(

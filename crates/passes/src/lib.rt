@@ -29,8 +29,8 @@ fn absorb_pair<C: Cipher>(
     c: u64,
     s: &mut [u8; 16],
 )
-    ensures state { s.new ≡ enciphered (answer cipher.old) key.now (padded y.now) domain c (xors s.old (padded x.now)) }
-    ensures called { Called (answer cipher.old) (count cipher.old) 1 (answer cipher.new) (count cipher.new) }
+    ensures state { s.new ≡ enciphered (C.answer cipher.old) key.now (padded y.now) domain c (xors s.old (padded x.now)) }
+    ensures called { Called (C.answer cipher.old) (C.count cipher.old) 1 (C.answer cipher.new) (C.count cipher.new) }
 {
     xor_into(s, &pad(x));
     encipher(cipher, key, &pad(y), domain, c, s);
@@ -45,9 +45,9 @@ pub fn absorb<C: Cipher>(
     text: &[u8],
     s: &mut [u8; 16],
 ) -> u64
-    ensures state { s.new ≡ absorbed (answer cipher.old) key.now domain first s.old (map padded (blocks text.now)) }
+    ensures state { s.new ≡ absorbed (C.answer cipher.old) key.now domain first s.old (map padded (blocks text.now)) }
     ensures last { result ≡ advanced ((length text.now - 1) / 16) first }
-    ensures called { Called (answer cipher.old) (count cipher.old) (block_count (length text.now) / 2) (answer cipher.new) (count cipher.new) }
+    ensures called { Called (C.answer cipher.old) (C.count cipher.old) (block_count (length text.now) / 2) (C.answer cipher.new) (C.count cipher.new) }
 {
     let mut rest = text;
     let mut c = first;
@@ -93,10 +93,10 @@ pub fn walk<C: Cipher>(
     s: &mut [u8; 16],
     text: &mut [u8],
 ) -> u64
-    ensures state { s.new ≡ left (answer cipher.old) key.now nonce.now domain way (counter 1) s.old (blocks text.old) }
-    ensures text { text.new ≡ walked (answer cipher.old) key.now nonce.now domain way (counter 1) s.old (blocks text.old) }
+    ensures state { s.new ≡ left (C.answer cipher.old) key.now nonce.now domain way (counter 1) s.old (blocks text.old) }
+    ensures text { text.new ≡ walked (C.answer cipher.old) key.now nonce.now domain way (counter 1) s.old (blocks text.old) }
     ensures last { result ≡ counter (block_count (length text.old)) }
-    ensures called { Called (answer cipher.old) (count cipher.old) ((length text.old - 1) / 16) (answer cipher.new) (count cipher.new) }
+    ensures called { Called (C.answer cipher.old) (C.count cipher.old) ((length text.old - 1) / 16) (C.answer cipher.new) (C.count cipher.new) }
 {
     let mut c = 2;
     let mut i = 0;

@@ -47,8 +47,8 @@ fn judge<M: Mode, C: Cipher>(
     requires nonce { length nonce.now ≡ 16 }
     requires tag { length tag.now ≡ 16 }
     requires out { length out.old ≡ length text.now }
-    ensures opened { Opened scheme (answer cipher.old) key.now nonce.now ad.now text.now tag.now result out.new }
-    ensures called { Called (answer cipher.old) (count cipher.old) (if result then (scheme.costs (length ad.now) (length text.now)).right else (scheme.costs (length ad.now) (length text.now)).wrong) (answer cipher.new) (count cipher.new) }
+    ensures opened { Opened M.scheme (C.answer cipher.old) key.now nonce.now ad.now text.now tag.now result out.new }
+    ensures called { Called (C.answer cipher.old) (C.count cipher.old) (if result then (M.scheme.costs (length ad.now) (length text.now)).right else (M.scheme.costs (length ad.now) (length text.now)).wrong) (C.answer cipher.new) (C.count cipher.new) }
 {
     out.copy_from_slice(text);
     mode.open_in_place(cipher, key, &sixteen(nonce), ad, out, &sixteen(tag))
@@ -56,7 +56,7 @@ fn judge<M: Mode, C: Cipher>(
 
 // The costs of a mode, with what every mode keeps.
 fn costs_of<M: Mode>(mode: &M, ad: &[u8], text: &[u8]) -> Costs
-    ensures told { result ≡ scheme.costs (length ad.now) (length text.now) }
+    ensures told { result ≡ M.scheme.costs (length ad.now) (length text.now) }
     ensures seal { 1 ≤ result.seal }
     ensures wrong { 1 ≤ result.wrong }
     ensures least { result.wrong ≤ result.right }
@@ -74,8 +74,8 @@ impl<M: Mode, C: Cipher, S: NonceSource> Post<M, C, S> {
         allowance: u64,
     ) -> Result<Post<M, C, S>, Unmade<M, C, S>>
         ensures { MatchResult result
-            (λ p. Made (making_of answer count pending cipher source key.now allowance) mode cipher source p (standing_of answer count pending p))
-            (λ e. NotMade (making_of answer count pending cipher source key.now allowance) mode cipher source e) }
+            (λ p. Made (making_of C.answer C.count S.pending cipher source key.now allowance) mode cipher source p (standing_of C.answer C.count S.pending p))
+            (λ e. NotMade (making_of C.answer C.count S.pending cipher source key.now allowance) mode cipher source e) }
     {
         match ask_making(key, allowance) {
             Some(refusal) => Err(Unmade {
@@ -99,7 +99,7 @@ impl<M: Mode, C: Cipher, S: NonceSource> Post<M, C, S> {
 
     /// Tells what is left and what was done.
     pub fn read_out(&self) -> Reading
-        ensures { Stepped scheme (standing_of answer count pending self.now) Read (told result) (standing_of answer count pending self.now) }
+        ensures { Stepped M.scheme (standing_of C.answer C.count S.pending self.now) Read (told result) (standing_of C.answer C.count S.pending self.now) }
     {
         Reading {
             left: self.left,
@@ -111,7 +111,7 @@ impl<M: Mode, C: Cipher, S: NonceSource> Post<M, C, S> {
 
     // The first question that refuses a seal.
     fn ask_seal(&self, ad: &[u8], message: &[u8], out: &[u8], tag: &[u8]) -> Option<Refusal>
-        ensures { result ≡ first_no (questions scheme (standing_of answer count pending self.now) (Seal ad.now message.now out.now tag.now)) }
+        ensures { result ≡ first_no (questions M.scheme (standing_of C.answer C.count S.pending self.now) (Seal ad.now message.now out.now tag.now)) }
     {
         match ask_frame(ad.len(), message.len(), out.len(), tag.len()) {
             None if costs_of(&self.mode, ad, message).seal > self.left => Some(
@@ -124,7 +124,7 @@ impl<M: Mode, C: Cipher, S: NonceSource> Post<M, C, S> {
 
     /// Seals a message under the next nonce, into an output place and a tag place. A refusal leaves zeros there, and the post as it was.
     pub fn seal(&mut self, ad: &[u8], message: &[u8], out: &mut [u8], tag: &mut [u8]) -> Outcome
-        ensures stepped { Stepped scheme (standing_of answer count pending self.old) (Seal ad.now message.now out.old tag.old) (reply result (out.new ∷ tag.new ∷ [])) (standing_of answer count pending self.new) }
+        ensures stepped { Stepped M.scheme (standing_of C.answer C.count S.pending self.old) (Seal ad.now message.now out.old tag.old) (reply result (out.new ∷ tag.new ∷ [])) (standing_of C.answer C.count S.pending self.new) }
         ensures kept { result.cost ≡ 0 → self.new ≡ self.old }
         ensures mode { self.new.mode ≡ self.old.mode }
     {
@@ -158,7 +158,7 @@ impl<M: Mode, C: Cipher, S: NonceSource> Post<M, C, S> {
         tag: &[u8],
         out: &[u8],
     ) -> Option<Refusal>
-        ensures { result ≡ first_no (questions scheme (standing_of answer count pending self.now) (Open nonce.now ad.now text.now tag.now out.now)) }
+        ensures { result ≡ first_no (questions M.scheme (standing_of C.answer C.count S.pending self.now) (Open nonce.now ad.now text.now tag.now out.now)) }
     {
         match ask_frame(ad.len(), text.len(), out.len(), tag.len()) {
             None if nonce.len() != 16 => Some(Refusal::NonceLength),
@@ -178,7 +178,7 @@ impl<M: Mode, C: Cipher, S: NonceSource> Post<M, C, S> {
         tag: &[u8],
         out: &mut [u8],
     ) -> Outcome
-        ensures stepped { Stepped scheme (standing_of answer count pending self.old) (Open nonce.now ad.now text.now tag.now out.old) (reply result (out.new ∷ [])) (standing_of answer count pending self.new) }
+        ensures stepped { Stepped M.scheme (standing_of C.answer C.count S.pending self.old) (Open nonce.now ad.now text.now tag.now out.old) (reply result (out.new ∷ [])) (standing_of C.answer C.count S.pending self.new) }
         ensures kept { result.cost ≡ 0 → self.new ≡ self.old }
         ensures mode { self.new.mode ≡ self.old.mode }
     {
@@ -218,7 +218,7 @@ impl<M: Mode, C: Cipher, S: NonceSource> Post<M, C, S> {
 
     /// Ends the post: its last reading, and its parts.
     pub fn retire(self) -> Retired<M, C, S>
-        ensures reading { Stepped scheme (standing_of answer count pending self) Read (told result.reading) (standing_of answer count pending self) }
+        ensures reading { Stepped M.scheme (standing_of C.answer C.count S.pending self) Read (told result.reading) (standing_of C.answer C.count S.pending self) }
         ensures mode { result.mode ≡ self.mode }
         ensures cipher { result.cipher ≡ self.cipher }
         ensures source { result.source ≡ self.source }

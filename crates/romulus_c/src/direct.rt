@@ -37,7 +37,7 @@ pub(crate) fn seal<M: Mode>(
     out: &mut [u8],
     tag: &mut [u8],
 ) -> RomulusAnswer
-    ensures { SealTold scheme (skinny-of (round_count rounds)) key.now nonce.now ad.now message.now out.old tag.old result out.new tag.new }
+    ensures { SealTold M.scheme (skinny-of (round_count rounds)) key.now nonce.now ad.now message.now out.old tag.old result out.new tag.new }
 {
     let mut cipher = Skinny::new(rounds);
     told(&mode.seal(&mut cipher, key, nonce, ad, message, out, tag))
@@ -54,7 +54,7 @@ pub(crate) fn open<M: Mode>(
     tag: &[u8],
     out: &mut [u8],
 ) -> RomulusAnswer
-    ensures { OpenTold scheme (skinny-of (round_count rounds)) key.now nonce.now ad.now text.now tag.now out.old result out.new }
+    ensures { OpenTold M.scheme (skinny-of (round_count rounds)) key.now nonce.now ad.now text.now tag.now out.old result out.new }
 {
     let mut cipher = Skinny::new(rounds);
     told(&mode.open(&mut cipher, key, nonce, ad, text, tag, out))

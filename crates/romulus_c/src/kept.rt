@@ -166,7 +166,7 @@ pub(crate) fn seal_by<M: Mode + Drop>(
 ) -> RomulusPostAnswer
     requires sound { first_no (kept_questions post.old) ≡ None }
     requires rounds { round_count rounds ≡ post.old.rounds }
-    ensures { Carried scheme post.old (Seal ad.now message.now out.old tag.old) (replyOf result (out.new ∷ tag.new ∷ [])) post.new }
+    ensures { Carried M.scheme post.old (Seal ad.now message.now out.old tag.old) (replyOf result (out.new ∷ tag.new ∷ [])) post.new }
 {
     let mut inner = load(mode, rounds, post);
     let outcome = inner.seal(ad, message, out, tag);
@@ -188,7 +188,7 @@ pub(crate) fn open_by<M: Mode + Drop>(
 ) -> RomulusPostAnswer
     requires sound { first_no (kept_questions post.old) ≡ None }
     requires rounds { round_count rounds ≡ post.old.rounds }
-    ensures { Carried scheme post.old (Open nonce.now ad.now text.now tag.now out.old) (replyOf result (out.new ∷ [])) post.new }
+    ensures { Carried M.scheme post.old (Open nonce.now ad.now text.now tag.now out.old) (replyOf result (out.new ∷ [])) post.new }
 {
     let mut inner = load(mode, rounds, post);
     let outcome = inner.open(nonce, ad, text, tag, out);

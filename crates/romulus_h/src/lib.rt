@@ -41,8 +41,8 @@ fn mark(block: &[u8; 16], b: u8) -> [u8; 16]
 
 // The cipher's answer for a block, ⊕ the block.
 fn fed_forward<C: Cipher>(cipher: &mut C, tweakey: &[u8; 48], block: &[u8; 16]) -> [u8; 16]
-    ensures value { result ≡ xors (answer cipher.old tweakey.now block.now) block.now }
-    ensures called { Called (answer cipher.old) (count cipher.old) 1 (answer cipher.new) (count cipher.new) }
+    ensures value { result ≡ xors (C.answer cipher.old tweakey.now block.now) block.now }
+    ensures called { Called (C.answer cipher.old) (C.count cipher.old) 1 (C.answer cipher.new) (C.count cipher.new) }
 {
     let mut r = cipher.encrypt(tweakey, block);
     xor_into(&mut r, block);
@@ -71,11 +71,11 @@ impl Hasher {
 
     // One block of 32 bytes, given as its halves.
     fn compress<C: Cipher>(&mut self, cipher: &mut C, first: &[u8; 16], second: &[u8; 16])
-        ensures left { self.new.left ≡ left_of (answer cipher.old) self.old.left self.old.right (first.now ++ second.now) }
-        ensures right { self.new.right ≡ right_of (answer cipher.old) self.old.left self.old.right (first.now ++ second.now) }
+        ensures left { self.new.left ≡ left_of (C.answer cipher.old) self.old.left self.old.right (first.now ++ second.now) }
+        ensures right { self.new.right ≡ right_of (C.answer cipher.old) self.old.left self.old.right (first.now ++ second.now) }
         ensures whole { length (first.now ++ second.now) ≡ 32 }
         ensures half { self.new.half ≡ self.old.half }
-        ensures called { Called (answer cipher.old) (count cipher.old) 2 (answer cipher.new) (count cipher.new) }
+        ensures called { Called (C.answer cipher.old) (C.count cipher.old) 2 (C.answer cipher.new) (C.count cipher.new) }
     {
         let tweakey = thirds(&self.right, first, second);
         let right = fed_forward(cipher, &tweakey, &mark(&self.left, 1));
@@ -85,7 +85,7 @@ impl Hasher {
 
     /// Takes in one block of 16 bytes.
     pub fn absorb_block<C: Cipher>(&mut self, cipher: &mut C, block: &[u8; 16])
-        ensures { Absorbs (answer cipher.old) (count cipher.old) self.old block.now (answer cipher.new) (count cipher.new) self.new }
+        ensures { Absorbs (C.answer cipher.old) (C.count cipher.old) self.old block.now (C.answer cipher.new) (C.count cipher.new) self.new }
     {
         match self.half {
             Some(half) => {
@@ -98,7 +98,7 @@ impl Hasher {
 
     // Takes in the whole blocks of 16 bytes of a text, and returns what is left of it.
     fn absorb_blocks<'a, C: Cipher>(&mut self, cipher: &mut C, text: &'a [u8]) -> &'a [u8]
-        ensures absorbed { Absorbs (answer cipher.old) (count cipher.old) self.old (take (length text.now / 16 * 16) text.now) (answer cipher.new) (count cipher.new) self.new }
+        ensures absorbed { Absorbs (C.answer cipher.old) (C.count cipher.old) self.old (take (length text.now / 16 * 16) text.now) (C.answer cipher.new) (C.count cipher.new) self.new }
         ensures rest { result.now ≡ drop (length text.now / 16 * 16) text.now }
     {
         let mut rest = text;
@@ -111,7 +111,7 @@ impl Hasher {
 
     /// Takes in a text, padded as Romulus-T pads data and ciphertext: to whole blocks of 16 bytes, and an empty one not at all.
     pub fn absorb_padded<C: Cipher>(&mut self, cipher: &mut C, text: &[u8])
-        ensures { Absorbs (answer cipher.old) (count cipher.old) self.old (ipad_star text.now) (answer cipher.new) (count cipher.new) self.new }
+        ensures { Absorbs (C.answer cipher.old) (C.count cipher.old) self.old (ipad_star text.now) (C.answer cipher.new) (C.count cipher.new) self.new }
     {
         if !text.is_empty() {
             let last = self.absorb_blocks(cipher, text);
@@ -122,8 +122,8 @@ impl Hasher {
     // The last block, from less than half a block that is left of the text.
     fn end<C: Cipher>(&mut self, cipher: &mut C, rest: &[u8])
         requires { length rest.now < 16 }
-        ensures digest { self.new.left ++ self.new.right ≡ digest_after (answer cipher.old) self.old rest.now }
-        ensures called { Called (answer cipher.old) (count cipher.old) (calls_after self.old (length rest.now)) (answer cipher.new) (count cipher.new) }
+        ensures digest { self.new.left ++ self.new.right ≡ digest_after (C.answer cipher.old) self.old rest.now }
+        ensures called { Called (C.answer cipher.old) (C.count cipher.old) (calls_after self.old (length rest.now)) (C.answer cipher.new) (C.count cipher.new) }
     {
         self.left = mark(&self.left, 2);
         let len = rest.len() as u8;
@@ -135,8 +135,8 @@ impl Hasher {
 
     /// The digest where this text is the end.
     pub fn finish<C: Cipher>(mut self, cipher: &mut C, text: &[u8]) -> Digest
-        ensures digest { result.left ++ result.right ≡ digest_after (answer cipher.old) self text.now }
-        ensures called { Called (answer cipher.old) (count cipher.old) (calls_after self (length text.now)) (answer cipher.new) (count cipher.new) }
+        ensures digest { result.left ++ result.right ≡ digest_after (C.answer cipher.old) self text.now }
+        ensures called { Called (C.answer cipher.old) (C.count cipher.old) (calls_after self (length text.now)) (C.answer cipher.new) (C.count cipher.new) }
     {
         let rest = self.absorb_blocks(cipher, text);
         self.end(cipher, rest);
@@ -163,8 +163,8 @@ fn ask(input: usize, place: usize) -> Option<Refusal>
 /// Writes the digest of an input over a place of 32 bytes. A refusal leaves zeros there, and the cipher as it was.
 pub fn hash<C: Cipher>(cipher: &mut C, input: &[u8], place: &mut [u8]) -> Option<Refusal>
     ensures answered { result ≡ first_no (hash_questions (length input.now) (length place.old)) }
-    ensures place { place.new ≡ hash_place (answer cipher.old) input.now place.old result }
-    ensures called { Called (answer cipher.old) (count cipher.old) (hash_cost (length input.now) result) (answer cipher.new) (count cipher.new) }
+    ensures place { place.new ≡ hash_place (C.answer cipher.old) input.now place.old result }
+    ensures called { Called (C.answer cipher.old) (C.count cipher.old) (hash_cost (length input.now) result) (C.answer cipher.new) (C.count cipher.new) }
     ensures kept { is_some result ≡ true → cipher.new ≡ cipher.old }
 {
     if let Some(refusal) = ask(input.len(), place.len()) {

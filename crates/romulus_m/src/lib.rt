@@ -34,9 +34,9 @@ fn domain(ad_len: usize, len: usize) -> u8
 
 // The message after a block of data that was left over, from the counter of that block on. Returns the counter of the last block.
 fn join<C: Cipher>(cipher: &mut C, key: &[u8; 16], c: u64, message: &[u8], s: &mut [u8; 16]) -> u64
-    ensures state { s.new ≡ joined (answer cipher.old) key.now c s.old (map padded (blocks message.now)) }
+    ensures state { s.new ≡ joined (C.answer cipher.old) key.now c s.old (map padded (blocks message.now)) }
     ensures last { result ≡ advanced (block_count (length message.now)) c }
-    ensures called { Called (answer cipher.old) (count cipher.old) ((block_count (length message.now) + 1) / 2) (answer cipher.new) (count cipher.new) }
+    ensures called { Called (C.answer cipher.old) (C.count cipher.old) ((block_count (length message.now) + 1) / 2) (C.answer cipher.new) (C.count cipher.new) }
 {
     if message.len() > 16 {
         encipher(cipher, key, &pad(&message[0..16]), 44, c, s);
@@ -56,9 +56,9 @@ fn gather<C: Cipher>(
     s: &mut [u8; 16],
 ) -> u64
     requires { s.old ≡ zero_block }
-    ensures state { s.new ≡ gathered (answer cipher.old) key.now ad.now message.now }
+    ensures state { s.new ≡ gathered (C.answer cipher.old) key.now ad.now message.now }
     ensures last { result ≡ counter (block_count (length ad.now) + block_count (length message.now)) }
-    ensures called { Called (answer cipher.old) (count cipher.old) ((block_count (length ad.now) + block_count (length message.now)) / 2) (answer cipher.new) (count cipher.new) }
+    ensures called { Called (C.answer cipher.old) (C.count cipher.old) ((block_count (length ad.now) + block_count (length message.now)) / 2) (C.answer cipher.new) (C.count cipher.new) }
 {
     let c = absorb(cipher, key, 40, 2, ad, s);
     if block_count(ad.len()) % 2 == 0 {
@@ -76,8 +76,8 @@ fn authenticate<C: Cipher>(
     ad: &[u8],
     message: &[u8],
 ) -> [u8; 16]
-    ensures tag { result ≡ tag_of (answer cipher.old) key.now nonce.now ad.now message.now }
-    ensures called { Called (answer cipher.old) (count cipher.old) ((block_count (length ad.now) + block_count (length message.now)) / 2 + 1) (answer cipher.new) (count cipher.new) }
+    ensures tag { result ≡ tag_of (C.answer cipher.old) key.now nonce.now ad.now message.now }
+    ensures called { Called (C.answer cipher.old) (C.count cipher.old) ((block_count (length ad.now) + block_count (length message.now)) / 2 + 1) (C.answer cipher.new) (C.count cipher.new) }
 {
     let mut s = [0; 16];
     let c = gather(cipher, key, ad, message, &mut s);
@@ -101,8 +101,8 @@ fn pass<C: Cipher>(
     tag: &[u8; 16],
     text: &mut [u8],
 )
-    ensures text { text.new ≡ walked (answer cipher.old) key.now nonce.now 36 way (counter 1) (seeded (answer cipher.old) key.now nonce.now tag.now) (blocks text.old) }
-    ensures called { Called (answer cipher.old) (count cipher.old) (text_calls (length text.old)) (answer cipher.new) (count cipher.new) }
+    ensures text { text.new ≡ walked (C.answer cipher.old) key.now nonce.now 36 way (counter 1) (seeded (C.answer cipher.old) key.now nonce.now tag.now) (blocks text.old) }
+    ensures called { Called (C.answer cipher.old) (C.count cipher.old) (text_calls (length text.old)) (C.answer cipher.new) (C.count cipher.new) }
 {
     if text.len() > 0 {
         let mut s = *tag;

@@ -26,16 +26,16 @@ fn end<C: Cipher>(
     c: u64,
     s: &mut [u8; 16],
 )
-    ensures state { s.new ≡ enciphered (answer cipher.old) key.now nonce.now (if_short len short full) c s.old }
-    ensures called { Called (answer cipher.old) (count cipher.old) 1 (answer cipher.new) (count cipher.new) }
+    ensures state { s.new ≡ enciphered (C.answer cipher.old) key.now nonce.now (if_short len short full) c s.old }
+    ensures called { Called (C.answer cipher.old) (C.count cipher.old) 1 (C.answer cipher.new) (C.count cipher.new) }
 {
     encipher(cipher, key, nonce, if_short(len, short, full), c, s);
 }
 
 // The state that the data and the nonce leave.
 fn start<C: Cipher>(cipher: &mut C, key: &[u8; 16], nonce: &[u8; 16], ad: &[u8]) -> [u8; 16]
-    ensures state { result ≡ started (answer cipher.old) key.now nonce.now ad.now }
-    ensures called { Called (answer cipher.old) (count cipher.old) (block_count (length ad.now) / 2 + 1) (answer cipher.new) (count cipher.new) }
+    ensures state { result ≡ started (C.answer cipher.old) key.now nonce.now ad.now }
+    ensures called { Called (C.answer cipher.old) (C.count cipher.old) (block_count (length ad.now) / 2 + 1) (C.answer cipher.new) (C.count cipher.new) }
 {
     let mut s = [0; 16];
     let c = absorb(cipher, key, 8, 2, ad, &mut s);

@@ -38,8 +38,8 @@ pub struct RomulusT;
 
 // The first block key.
 fn first_key<C: Cipher>(cipher: &mut C, key: &[u8; 16], nonce: &[u8; 16]) -> [u8; 16]
-    ensures key { result ≡ enciphered (answer cipher.old) key.now zero_block 66 0 nonce.now }
-    ensures called { Called (answer cipher.old) (count cipher.old) 1 (answer cipher.new) (count cipher.new) }
+    ensures key { result ≡ enciphered (C.answer cipher.old) key.now zero_block 66 0 nonce.now }
+    ensures called { Called (C.answer cipher.old) (C.count cipher.old) 1 (C.answer cipher.new) (C.count cipher.new) }
 {
     let mut first = *nonce;
     encipher(cipher, key, &[0; 16], FIRST_DOMAIN, NO_COUNTER, &mut first);
@@ -48,8 +48,8 @@ fn first_key<C: Cipher>(cipher: &mut C, key: &[u8; 16], nonce: &[u8; 16]) -> [u8
 
 // The next block key.
 fn next_key<C: Cipher>(cipher: &mut C, block_key: &mut [u8; 16], nonce: &[u8; 16], c: u64)
-    ensures key { block_key.new ≡ enciphered (answer cipher.old) block_key.old zero_block 65 c nonce.now }
-    ensures called { Called (answer cipher.old) (count cipher.old) 1 (answer cipher.new) (count cipher.new) }
+    ensures key { block_key.new ≡ enciphered (C.answer cipher.old) block_key.old zero_block 65 c nonce.now }
+    ensures called { Called (C.answer cipher.old) (C.count cipher.old) 1 (C.answer cipher.new) (C.count cipher.new) }
 {
     let mut next = *nonce;
     encipher(cipher, block_key, &[0; 16], NEXT_DOMAIN, c, &mut next);
@@ -64,8 +64,8 @@ fn cover_part<C: Cipher>(
     c: u64,
     part: &mut [u8],
 )
-    ensures part { part.new ≡ xors part.old (enciphered (answer cipher.old) block_key.now zero_block 64 c nonce.now) }
-    ensures called { Called (answer cipher.old) (count cipher.old) 1 (answer cipher.new) (count cipher.new) }
+    ensures part { part.new ≡ xors part.old (enciphered (C.answer cipher.old) block_key.now zero_block 64 c nonce.now) }
+    ensures called { Called (C.answer cipher.old) (C.count cipher.old) 1 (C.answer cipher.new) (C.count cipher.new) }
 {
     let mut mask = *nonce;
     encipher(cipher, block_key, &[0; 16], STREAM_DOMAIN, c, &mut mask);
@@ -74,9 +74,9 @@ fn cover_part<C: Cipher>(
 
 // A text ⊕ the key stream: the ciphertext of a message, and back the message of a ciphertext.
 fn cover<C: Cipher>(cipher: &mut C, key: &[u8; 16], nonce: &[u8; 16], text: &mut [u8])
-    ensures text { text.new ≡ ciphertext_of (answer cipher.old) key.now nonce.now text.old }
-    ensures back { ciphertext_of (answer cipher.old) key.now nonce.now text.new ≡ text.old }
-    ensures called { Called (answer cipher.old) (count cipher.old) (2 * message_blocks (length text.old)) (answer cipher.new) (count cipher.new) }
+    ensures text { text.new ≡ ciphertext_of (C.answer cipher.old) key.now nonce.now text.old }
+    ensures back { ciphertext_of (C.answer cipher.old) key.now nonce.now text.new ≡ text.old }
+    ensures called { Called (C.answer cipher.old) (C.count cipher.old) (2 * message_blocks (length text.old)) (C.answer cipher.new) (C.count cipher.new) }
 {
     if text.is_empty() {
         return;
@@ -106,8 +106,8 @@ fn counter_at(m: usize) -> u64
 
 // The digest that the tag is made of.
 fn tag_digest<C: Cipher>(cipher: &mut C, nonce: &[u8; 16], ad: &[u8], text: &[u8]) -> Digest
-    ensures digest { result.left ++ result.right ≡ digest_of (answer cipher.old) (tag_input nonce.now ad.now text.now) }
-    ensures called { Called (answer cipher.old) (count cipher.old) (hash_calls (length (tag_input nonce.now ad.now text.now))) (answer cipher.new) (count cipher.new) }
+    ensures digest { result.left ++ result.right ≡ digest_of (C.answer cipher.old) (tag_input nonce.now ad.now text.now) }
+    ensures called { Called (C.answer cipher.old) (C.count cipher.old) (hash_calls (length (tag_input nonce.now ad.now text.now))) (C.answer cipher.new) (C.count cipher.new) }
 {
     let mut hasher = Hasher::new();
     hasher.absorb_padded(cipher, ad);
@@ -118,8 +118,8 @@ fn tag_digest<C: Cipher>(cipher: &mut C, nonce: &[u8; 16], ad: &[u8], text: &[u8
 
 // The tag from a digest.
 fn tag_from<C: Cipher>(cipher: &mut C, key: &[u8; 16], digest: &Digest) -> [u8; 16]
-    ensures tag { result ≡ enciphered (answer cipher.old) key.now digest.now.right 68 0 digest.now.left }
-    ensures called { Called (answer cipher.old) (count cipher.old) 1 (answer cipher.new) (count cipher.new) }
+    ensures tag { result ≡ enciphered (C.answer cipher.old) key.now digest.now.right 68 0 digest.now.left }
+    ensures called { Called (C.answer cipher.old) (C.count cipher.old) 1 (C.answer cipher.new) (C.count cipher.new) }
 {
     let mut tag = digest.left;
     encipher(cipher, key, &digest.right, TAG_DOMAIN, NO_COUNTER, &mut tag);
@@ -134,8 +134,8 @@ fn make_tag<C: Cipher>(
     ad: &[u8],
     text: &[u8],
 ) -> [u8; 16]
-    ensures tag { result ≡ tag_of (answer cipher.old) key.now nonce.now ad.now text.now }
-    ensures called { Called (answer cipher.old) (count cipher.old) (tag_cost (length ad.now) (length text.now)) (answer cipher.new) (count cipher.new) }
+    ensures tag { result ≡ tag_of (C.answer cipher.old) key.now nonce.now ad.now text.now }
+    ensures called { Called (C.answer cipher.old) (C.count cipher.old) (tag_cost (length ad.now) (length text.now)) (C.answer cipher.new) (C.count cipher.new) }
 {
     let digest = tag_digest(cipher, nonce, ad, text);
     tag_from(cipher, key, &digest)
@@ -150,8 +150,8 @@ fn judge<C: Cipher>(
     text: &[u8],
     tag: &[u8; 16],
 ) -> bool
-    ensures verdict { Decides result (tag_of (answer cipher.old) key.now nonce.now ad.now text.now ≡ tag.now) }
-    ensures called { Called (answer cipher.old) (count cipher.old) (tag_cost (length ad.now) (length text.now)) (answer cipher.new) (count cipher.new) }
+    ensures verdict { Decides result (tag_of (C.answer cipher.old) key.now nonce.now ad.now text.now ≡ tag.now) }
+    ensures called { Called (C.answer cipher.old) (C.count cipher.old) (tag_cost (length ad.now) (length text.now)) (C.answer cipher.new) (C.count cipher.new) }
 {
     equal(&make_tag(cipher, key, nonce, ad, text), tag)
 }

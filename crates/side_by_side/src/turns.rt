@@ -61,7 +61,7 @@ impl Turn {
 
 /// Serves one turn: the call is made on the request's buffers, and its answer stands in the turn.
 pub fn handle<M: Mode, C: Cipher, S: NonceSource>(post: &mut Post<M, C, S>, turn: &mut Turn)
-    ensures step { Stepped scheme (standing_of answer count pending post.old) (asked turn.old) (answered turn.new) (standing_of answer count pending post.new) }
+    ensures step { Stepped M.scheme (standing_of C.answer C.count S.pending post.old) (asked turn.old) (answered turn.new) (standing_of C.answer C.count S.pending post.new) }
     ensures kept { given turn.new ≡ given turn.old }
     ensures mode { post.new.mode ≡ post.old.mode }
 {
@@ -97,7 +97,7 @@ pub fn handle<M: Mode, C: Cipher, S: NonceSource>(post: &mut Post<M, C, S>, turn
 
 /// Serves every turn, in order.
 pub fn serve<M: Mode, C: Cipher, S: NonceSource>(post: &mut Post<M, C, S>, turns: &mut [Turn])
-    ensures served { Run scheme (standing_of answer count pending post.old) (transcript turns.old turns.new) (standing_of answer count pending post.new) }
+    ensures served { Run M.scheme (standing_of C.answer C.count S.pending post.old) (transcript turns.old turns.new) (standing_of C.answer C.count S.pending post.new) }
     ensures kept { map given turns.new ≡ map given turns.old }
     ensures mode { post.new.mode ≡ post.old.mode }
 {
