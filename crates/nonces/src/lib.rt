@@ -1,5 +1,6 @@
 //! Nonce sources: what a source means, a source that counts, and one that reads a sheet.
 #![tactic(auto)]
+
 ghost use Rattle.std.specs.Prelude.{◌≡◌, ℕ, List, [], ◌∷◌, ◌++◌, Decides, MatchOption};
 ghost use Rattle.nonces.specs.Nonces.{NoncesProper, words};
 ghost use Rattle.nonces.specs.Sources.{big_endian};

@@ -7,4 +7,4 @@ use Rattle.nonces.proofs.sheet.Sheet.new.Goals as goal
 pub returns : goal.returns
 returns c =
     let d : NoRepeats (sheet_nonces c.args.entries.now) = c.all_different.ensures.0 c.if-not-all_different.false in
-    ((omega arith, c.if-entries-gt-MOST-ENTRIES.false), d, last_places_same (sheet_nonces c.args.entries.now) d)
+    ((omega arith, c.if-entries-gt-MOST_ENTRIES.false), d, last_places_same (sheet_nonces c.args.entries.now) d)
