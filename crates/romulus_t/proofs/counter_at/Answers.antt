@@ -9,5 +9,5 @@ stepped-after (suc i) c = stepped-after i (stepped c)
 
 pub loop-i-preserved : goal.loop-i-preserved
 loop-i-preserved c =
-    let i = c.loop-i.-i in
+    let i = c.loop-i._i in
     c.step-value.ensures ∙ ap stepped c.loop-i.invariant ∙ stepped-after i 1 ∙ ap (λ (j : ℕ). advanced j 1) (sym (add-one i))
