@@ -20,9 +20,9 @@ lasts zero xs = refl
 lasts (suc j) xs =
     skips (take 16 xs) j (drop 16 xs) ∙ lasts j (drop 16 xs) ∙ drop-drop (j * 16) 16 xs ∙ ap (λ (n : ℕ). drop n xs) (omega arith)
 
-pub blocks-cut : (xs : List ℕ) → BlocksCut xs
+pub blocks_cut : (xs : List ℕ) → BlocksCut xs
 unfolding parts
-blocks-cut xs =
+blocks_cut xs =
     let j : ℕ = (length xs - 1) / 16 in
     record { whole = joins j xs; counted = counts j xs ∙ sym (add-one j); last = ap length (lasts j xs) ∙ length-drop (j * 16) xs }
 

@@ -5,7 +5,7 @@ use Rattle.std.proofs.lemmas.Bool.Decides.{nat_tests}
 use Rattle.byte_blocks.specs.Bytes.{xors}
 use Rattle.byte_blocks.specs.Counter.{stepped, advanced, counter}
 use Rattle.byte_blocks.specs.Block.{padded, parts, blocks, block_count, zero_block}
-use Rattle.byte_blocks.proofs.Pieces.{blocks-cut, blocks_more, blocks_last}
+use Rattle.byte_blocks.proofs.Pieces.{blocks_cut, blocks_more, blocks_last}
 use Rattle.cipher.specs.Cipher.{Answer, enciphered}
 use Rattle.passes.specs.declared.Direction.{Direction}
 use Rattle.passes.specs.Passes.{absorbed, walked}
@@ -45,15 +45,15 @@ module _ (f : Answer) (k : List ℕ) where
   odd (suc h) x (y ∷ []) ms c s e = absurd (omega arith)
   odd (suc h) x (y ∷ (z ∷ ds)) ms c s e = odd h z ds ms (stepped (stepped c)) (enciphered f k y 40 c (xors s x)) (omega arith)
 
-  data-odd : (h j : ℕ) (ds ms : List (List ℕ)) (c : ℕ) (s : List ℕ) → length ds ≡ j + 1 → j ≡ h + h →
+  data_odd : (h j : ℕ) (ds ms : List (List ℕ)) (c : ℕ) (s : List ℕ) → length ds ≡ j + 1 → j ≡ h + h →
       paired f k h c s (ds ++ ms) ≡ joined f k (advanced j c) (absorbed f k 40 c s ds) ms
-  data-odd h j [] ms c s l e = absurd (omega arith)
-  data-odd h j (x ∷ ds) ms c s l e =
+  data_odd h j [] ms c s l e = absurd (omega arith)
+  data_odd h j (x ∷ ds) ms c s l e =
       let i : length ds ≡ j = omega arith in
       odd h x ds ms c s (omega arith) ∙ ap (λ (z : ℕ). joined f k (advanced z c) (absorbed f k 40 c s (x ∷ ds)) ms) i
 
   count_of : (xs : List ℕ) → length (map padded (blocks xs)) ≡ (length xs - 1) / 16 + 1
-  count_of xs = length-map (blocks xs) padded ∙ (blocks-cut xs).counted
+  count_of xs = length-map (blocks xs) padded ∙ (blocks_cut xs).counted
 
   -- data of evenly many blocks, and of oddly many
   pub gathered_even : (ad m : List ℕ) → block_count (length ad) % 2 ≡ 0 →
@@ -68,7 +68,7 @@ module _ (f : Answer) (k : List ℕ) where
   pub gathered_odd : (ad m : List ℕ) → block_count (length ad) % 2 ≡ 1 →
       gathered f k ad m ≡ joined f k (advanced ((length ad - 1) / 16) 2) (absorbed f k 40 2 zero_block (map padded (blocks ad))) (map padded (blocks m))
   unfolding gathered
-  gathered_odd ad m h = data-odd (block_count (length ad) / 2) ((length ad - 1) / 16) (map padded (blocks ad)) (map padded (blocks m)) 2 zero_block (count_of ad) (omega arith)
+  gathered_odd ad m h = data_odd (block_count (length ad) / 2) ((length ad - 1) / 16) (map padded (blocks ad)) (map padded (blocks m)) 2 zero_block (count_of ad) (omega arith)
 
   -- the message after a block left over
   pub joined_more : (c : ℕ) (s m : List ℕ) → 16 < length m →

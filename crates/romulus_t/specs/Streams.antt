@@ -14,11 +14,11 @@ use Rattle.romulus_t.specs.ModeT.{message_blocks, stream, ciphertext_of}
 
 -- ---- a mask in parts
 -- a text in two parts, the first as long as its part of the mask
-xors-parts : (x y e z : List ℕ) → length x ≡ length e → xors (x ++ y) (e ++ z) ≡ xors x e ++ xors y z
-xors-parts [] y [] z l = refl
-xors-parts [] y (b ∷ e) z l = absurd (omega arith)
-xors-parts (a ∷ x) y [] z l = absurd (omega arith)
-xors-parts (a ∷ x) y (b ∷ e) z l = ap (λ (w : List ℕ). bit_xor a b ∷ w) (xors-parts x y e z (omega arith))
+xors_parts : (x y e z : List ℕ) → length x ≡ length e → xors (x ++ y) (e ++ z) ≡ xors x e ++ xors y z
+xors_parts [] y [] z l = refl
+xors_parts [] y (b ∷ e) z l = absurd (omega arith)
+xors_parts (a ∷ x) y [] z l = absurd (omega arith)
+xors_parts (a ∷ x) y (b ∷ e) z l = ap (λ (w : List ℕ). bit_xor a b ∷ w) (xors_parts x y e z (omega arith))
 
 -- no more of a mask is used than the text is long
 xors_front : (x e z : List ℕ) → length x ≤ length e → xors x (e ++ z) ≡ xors x e
@@ -41,7 +41,7 @@ module _ (f : Answer) (h : Sixteen f) (n : List ℕ) (c : ℕ) (s xs : List ℕ)
       let l : length (take 16 xs) ≡ length (enciphered f s zero_block 64 c n) = length-take-le 16 xs (omega arith) ∙ sym (length-enciphered f h s zero_block 64 c n) in
       ap (λ (i : ℕ). xors xs (stream f n i c s)) e
       ∙ ap (λ (y : List ℕ). xors y (stream f n (suc j) c s)) (sym (take-append-drop 16 xs))
-      ∙ xors-parts (take 16 xs) (drop 16 xs) (enciphered f s zero_block 64 c n) _ l
+      ∙ xors_parts (take 16 xs) (drop 16 xs) (enciphered f s zero_block 64 c n) _ l
 
   covered_last : 0 < length xs → length xs ≤ 16 → xors xs (stream f n (message_blocks (length xs)) c s) ≡ xors xs (enciphered f s zero_block 64 c n)
   covered_last some short =

@@ -1,5 +1,5 @@
-use Rattle.byte_blocks.proofs.Pieces.{blocks-cut}
+use Rattle.byte_blocks.proofs.Pieces.{blocks_cut}
 use Rattle.byte_blocks.proofs.blocks_are_the_text.Goals as goal
 
 pub returns : goal.returns
-returns c = blocks-cut c.args.text.now
+returns c = blocks_cut c.args.text.now
