@@ -10,16 +10,12 @@ invariant_of-self c =
     let all : length self.bytes ≡ 8192 = omega arith in
     let within : self.end ≤ length self.bytes = omega (arith, self.within) in
     let few : k ≤ self.end - self.at = omega (arith, c.min.ensures) in
-    let zs = part_cleared self.bytes c.fill.new.self self.at k (omega (arith, self.ordered)) (c.fill.ensures.after (λ y e. e)) in (
-      omega (arith, self.ordered),
-      (
-        self.within,
-        (
-          cleared_more self.bytes c.fill.new.self self.at self.end self.ordered within k few zs self.cleared,
-          (rest_kept self.bytes c.fill.new.self self.at self.end self.ordered within k few (ap length zs ∙ length-replicate k 0) ∙ self.rest, tt),
-        ),
-      ),
-    )
+    let zs = part_cleared self.bytes c.fill.new.self self.at k (omega (arith, self.ordered)) (c.fill.ensures.after (λ y e. e)) in record {
+      ordered = omega (arith, self.ordered);
+      within = self.within;
+      cleared = cleared_more self.bytes c.fill.new.self self.at self.end self.ordered within k few zs self.cleared;
+      rest = rest_kept self.bytes c.fill.new.self self.at self.end self.ordered within k few (ap length zs ∙ length-replicate k 0) ∙ self.rest;
+    }
 
 pub returns : goal.returns
 returns c =
