@@ -1,8 +1,9 @@
 //! One cipher of the three, chosen at run time.
 #![tactic(auto)]
+
 ghost use Rattle.std.specs.Prelude.{◌≡◌, refl};
 ghost use Rattle.cipher.specs.Cipher.{stand_in};
-ghost use Rattle.skinny.specs.Skinny.{skinny as skinnyOf};
+ghost use Rattle.skinny.specs.Skinny.{skinny as skinny_of};
 ghost use Rattle.skinny.specs.RoundCount.{round_count};
 ghost use Rattle.any_cipher.specs.AnyCipher.{any_answer, any_count};
 ghost use Rattle.skinny.specs.Sixteen.{answer_long};
@@ -22,7 +23,7 @@ pub enum AnyCipher {
 impl AnyCipher {
     /// Skinny-128-384 with so many rounds, never called.
     pub fn skinny(rounds: Rounds) -> Self
-        ensures answers { any_answer result ≡ skinnyOf (round_count rounds) }
+        ensures answers { any_answer result ≡ skinny_of (round_count rounds) }
         ensures fresh { any_count result ≡ 0 }
     {
         AnyCipher::Skinny(Skinny::new(rounds))

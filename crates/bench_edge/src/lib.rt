@@ -2,6 +2,7 @@
 //!
 //! A slice crosses as a pointer and a length. Nothing allocates, and nothing is kept from call to call.
 #![tactic(auto)]
+
 mod calls;
 mod posts;
 mod sheets;

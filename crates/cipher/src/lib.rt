@@ -1,5 +1,6 @@
 //! A block cipher by its answers and its count, and the bench stand-in.
 #![tactic(auto)]
+
 ghost use Rattle.std.specs.Prelude.{◌≡◌, ℕ, ◌+◌, ◌%◌, ◌^◌, ◌<◌};
 ghost use Rattle.cipher.specs.Cipher.{Answer, Sixteen, Called, enciphered, stand_in};
 ghost use Rattle.std.proofs.Common.{rules};

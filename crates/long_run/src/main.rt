@@ -1,6 +1,7 @@
 //! A long run of posts: calls of mixed kinds from a small fixed generator, on each mode and each kind of nonce source.
 //! The program keeps its own books, compares them with every answer and every reading, and fails where they differ.
 #![tactic(auto)]
+
 mod amounts;
 mod books;
 mod calls;

@@ -1,10 +1,11 @@
 //! What every mode has: its meaning, its costs, and the questions before its work.
 #![tactic(auto)]
+
 ghost use Rattle.std.specs.Prelude.{◌≡◌, length, if◌then◌else◌, Decides};
 ghost use Rattle.refusals.specs.Refusals.{first_no, answer_number};
 ghost use Rattle.cipher.specs.Cipher.{Called};
 ghost use Rattle.mode.specs.Mode.{Scheme, Keeps, SealsTo, Opened, zeros};
-ghost use Rattle.mode.specs.Calls.{frame_questions, size_questions, refused as refusedOf, verdict_outcome, SealAnswer, OpenAnswer};
+ghost use Rattle.mode.specs.Calls.{frame_questions, size_questions, refused as refused_of, verdict_outcome, SealAnswer, OpenAnswer};
 
 use byte_blocks::equal;
 use cipher::Cipher;
@@ -35,7 +36,7 @@ impl Outcome {
 }
 
 fn refused(refusal: Refusal) -> Outcome
-    ensures { result ≡ refusedOf refusal }
+    ensures { result ≡ refused_of refusal }
 {
     Outcome {
         refusal: Some(refusal),

@@ -1,5 +1,6 @@
 //! The passes of Romulus-N and Romulus-M over a text.
 #![tactic(auto)]
+
 ghost use Rattle.std.specs.Prelude.{◌≡◌, ◌+◌, ◌-◌, ◌/◌, map, length};
 ghost use Rattle.byte_blocks.specs.Bytes.{xors, g_of};
 ghost use Rattle.byte_blocks.specs.Counter.{advanced, counter};

@@ -5,7 +5,7 @@ ghost use Rattle.cipher.specs.Cipher.{Called};
 ghost use Rattle.mode.specs.Mode.{Opened};
 ghost use Rattle.promise.specs.Calls.{Seal, Open, Read};
 ghost use Rattle.promise.specs.Answers.{questions, Stepped};
-ghost use Rattle.post.specs.Post.{standing_of, making_of, Made, NotMade, reply, told, refused as refusedOf};
+ghost use Rattle.post.specs.Post.{standing_of, making_of, Made, NotMade, reply, told, refused as refused_of};
 
 use super::{Outcome, Post, Reading, Retired, Unmade};
 use cipher::Cipher;
@@ -15,7 +15,7 @@ use promise::ask_making;
 use refusals::Refusal;
 
 fn refused(refusal: Refusal) -> Outcome
-    ensures { result ≡ refusedOf refusal }
+    ensures { result ≡ refused_of refusal }
 {
     Outcome {
         refusal: Some(refusal),

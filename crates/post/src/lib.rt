@@ -1,5 +1,6 @@
 //! A post: it seals under nonces of its own, and opens what was sealed under its key, within an allowance of cipher calls.
 #![tactic(auto)]
+
 ghost use Rattle.std.specs.Prelude.{◌≡◌, ◌+◌, ◌^◌, ◌≤◌};
 ghost use Rattle.refusals.specs.Refusals.{answer_number};
 

@@ -1,5 +1,6 @@
 //! What a post promises over whole runs, as definitions, and the proofs that every run keeps it.
 #![tactic(auto)]
+
 ghost use Rattle.std.specs.Prelude.{◌≡◌};
 ghost use Rattle.refusals.specs.Refusals.{first_no};
 ghost use Rattle.promise.specs.Answers.{making_questions};

@@ -1,5 +1,6 @@
 //! Why a call is refused: one enum for the whole library, with the number of each case.
 #![tactic(auto)]
+
 ghost use Rattle.std.specs.Prelude.{◌≡◌};
 ghost use Rattle.refusals.specs.Refusals.{number_of, answer_number};
 

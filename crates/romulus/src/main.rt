@@ -1,5 +1,6 @@
 //! The line program: reads lines from standard input, and prints the answer to each.
 #![tactic(auto)]
+
 ghost use Rattle.std.specs.Prelude.{◌≤◌, length};
 
 mod ahead;

@@ -1,6 +1,6 @@
 // The direct calls: a key and a nonce with each.
 ghost use Rattle.std.specs.Prelude.{◌≡◌};
-ghost use Rattle.skinny.specs.Skinny.{skinny as skinny-of};
+ghost use Rattle.skinny.specs.Skinny.{skinny as skinny_of};
 ghost use Rattle.skinny.specs.RoundCount.{round_count};
 ghost use Rattle.romulus_c.specs.Told.{told as told_of, SealTold, OpenTold, HashTold};
 
@@ -37,7 +37,7 @@ pub(crate) fn seal<M: Mode>(
     out: &mut [u8],
     tag: &mut [u8],
 ) -> RomulusAnswer
-    ensures { SealTold M.scheme (skinny-of (round_count rounds)) key.now nonce.now ad.now message.now out.old tag.old result out.new tag.new }
+    ensures { SealTold M.scheme (skinny_of (round_count rounds)) key.now nonce.now ad.now message.now out.old tag.old result out.new tag.new }
 {
     let mut cipher = Skinny::new(rounds);
     told(&mode.seal(&mut cipher, key, nonce, ad, message, out, tag))
@@ -54,7 +54,7 @@ pub(crate) fn open<M: Mode>(
     tag: &[u8],
     out: &mut [u8],
 ) -> RomulusAnswer
-    ensures { OpenTold M.scheme (skinny-of (round_count rounds)) key.now nonce.now ad.now text.now tag.now out.old result out.new }
+    ensures { OpenTold M.scheme (skinny_of (round_count rounds)) key.now nonce.now ad.now text.now tag.now out.old result out.new }
 {
     let mut cipher = Skinny::new(rounds);
     told(&mode.open(&mut cipher, key, nonce, ad, text, tag, out))
@@ -62,7 +62,7 @@ pub(crate) fn open<M: Mode>(
 
 // A hash on a cipher of its own.
 pub(crate) fn digest_into(rounds: Rounds, input: &[u8], digest: &mut [u8]) -> u32
-    ensures { HashTold (skinny-of (round_count rounds)) input.now digest.old result digest.new }
+    ensures { HashTold (skinny_of (round_count rounds)) input.now digest.old result digest.new }
 {
     let mut cipher = Skinny::new(rounds);
     answer_number(hash(&mut cipher, input, digest)) as u32

@@ -1,5 +1,5 @@
 // The exported direct calls. Each is one mode on one cipher.
-ghost use Rattle.skinny.specs.Skinny.{skinny as skinny-of};
+ghost use Rattle.skinny.specs.Skinny.{skinny as skinny_of};
 ghost use Rattle.romulus_m.specs.ModeM.{m_scheme};
 ghost use Rattle.romulus_n.specs.ModeN.{n_scheme};
 ghost use Rattle.romulus_t.specs.ModeT.{t_scheme};
@@ -21,7 +21,7 @@ pub extern "C" fn romulus_c_n40_seal(
     out: &mut [u8],
     tag: &mut [u8],
 ) -> RomulusAnswer
-    ensures { SealTold n_scheme (skinny-of 40) key.now nonce.now ad.now message.now out.old tag.old result out.new tag.new }
+    ensures { SealTold n_scheme (skinny_of 40) key.now nonce.now ad.now message.now out.old tag.old result out.new tag.new }
 {
     seal(&RomulusN, Rounds::Forty, key, nonce, ad, message, out, tag)
 }
@@ -36,7 +36,7 @@ pub extern "C" fn romulus_c_n40_open(
     tag: &[u8],
     out: &mut [u8],
 ) -> RomulusAnswer
-    ensures { OpenTold n_scheme (skinny-of 40) key.now nonce.now ad.now text.now tag.now out.old result out.new }
+    ensures { OpenTold n_scheme (skinny_of 40) key.now nonce.now ad.now text.now tag.now out.old result out.new }
 {
     open(&RomulusN, Rounds::Forty, key, nonce, ad, text, tag, out)
 }
@@ -51,7 +51,7 @@ pub extern "C" fn romulus_c_n56_seal(
     out: &mut [u8],
     tag: &mut [u8],
 ) -> RomulusAnswer
-    ensures { SealTold n_scheme (skinny-of 56) key.now nonce.now ad.now message.now out.old tag.old result out.new tag.new }
+    ensures { SealTold n_scheme (skinny_of 56) key.now nonce.now ad.now message.now out.old tag.old result out.new tag.new }
 {
     seal(
         &RomulusN,
@@ -75,7 +75,7 @@ pub extern "C" fn romulus_c_n56_open(
     tag: &[u8],
     out: &mut [u8],
 ) -> RomulusAnswer
-    ensures { OpenTold n_scheme (skinny-of 56) key.now nonce.now ad.now text.now tag.now out.old result out.new }
+    ensures { OpenTold n_scheme (skinny_of 56) key.now nonce.now ad.now text.now tag.now out.old result out.new }
 {
     open(&RomulusN, Rounds::FiftySix, key, nonce, ad, text, tag, out)
 }
@@ -90,7 +90,7 @@ pub extern "C" fn romulus_c_m40_seal(
     out: &mut [u8],
     tag: &mut [u8],
 ) -> RomulusAnswer
-    ensures { SealTold m_scheme (skinny-of 40) key.now nonce.now ad.now message.now out.old tag.old result out.new tag.new }
+    ensures { SealTold m_scheme (skinny_of 40) key.now nonce.now ad.now message.now out.old tag.old result out.new tag.new }
 {
     seal(&RomulusM, Rounds::Forty, key, nonce, ad, message, out, tag)
 }
@@ -105,7 +105,7 @@ pub extern "C" fn romulus_c_m40_open(
     tag: &[u8],
     out: &mut [u8],
 ) -> RomulusAnswer
-    ensures { OpenTold m_scheme (skinny-of 40) key.now nonce.now ad.now text.now tag.now out.old result out.new }
+    ensures { OpenTold m_scheme (skinny_of 40) key.now nonce.now ad.now text.now tag.now out.old result out.new }
 {
     open(&RomulusM, Rounds::Forty, key, nonce, ad, text, tag, out)
 }
@@ -120,7 +120,7 @@ pub extern "C" fn romulus_c_m56_seal(
     out: &mut [u8],
     tag: &mut [u8],
 ) -> RomulusAnswer
-    ensures { SealTold m_scheme (skinny-of 56) key.now nonce.now ad.now message.now out.old tag.old result out.new tag.new }
+    ensures { SealTold m_scheme (skinny_of 56) key.now nonce.now ad.now message.now out.old tag.old result out.new tag.new }
 {
     seal(
         &RomulusM,
@@ -144,7 +144,7 @@ pub extern "C" fn romulus_c_m56_open(
     tag: &[u8],
     out: &mut [u8],
 ) -> RomulusAnswer
-    ensures { OpenTold m_scheme (skinny-of 56) key.now nonce.now ad.now text.now tag.now out.old result out.new }
+    ensures { OpenTold m_scheme (skinny_of 56) key.now nonce.now ad.now text.now tag.now out.old result out.new }
 {
     open(&RomulusM, Rounds::FiftySix, key, nonce, ad, text, tag, out)
 }
@@ -159,7 +159,7 @@ pub extern "C" fn romulus_c_t40_seal(
     out: &mut [u8],
     tag: &mut [u8],
 ) -> RomulusAnswer
-    ensures { SealTold t_scheme (skinny-of 40) key.now nonce.now ad.now message.now out.old tag.old result out.new tag.new }
+    ensures { SealTold t_scheme (skinny_of 40) key.now nonce.now ad.now message.now out.old tag.old result out.new tag.new }
 {
     seal(&RomulusT, Rounds::Forty, key, nonce, ad, message, out, tag)
 }
@@ -174,7 +174,7 @@ pub extern "C" fn romulus_c_t40_open(
     tag: &[u8],
     out: &mut [u8],
 ) -> RomulusAnswer
-    ensures { OpenTold t_scheme (skinny-of 40) key.now nonce.now ad.now text.now tag.now out.old result out.new }
+    ensures { OpenTold t_scheme (skinny_of 40) key.now nonce.now ad.now text.now tag.now out.old result out.new }
 {
     open(&RomulusT, Rounds::Forty, key, nonce, ad, text, tag, out)
 }
@@ -189,7 +189,7 @@ pub extern "C" fn romulus_c_t56_seal(
     out: &mut [u8],
     tag: &mut [u8],
 ) -> RomulusAnswer
-    ensures { SealTold t_scheme (skinny-of 56) key.now nonce.now ad.now message.now out.old tag.old result out.new tag.new }
+    ensures { SealTold t_scheme (skinny_of 56) key.now nonce.now ad.now message.now out.old tag.old result out.new tag.new }
 {
     seal(
         &RomulusT,
@@ -213,7 +213,7 @@ pub extern "C" fn romulus_c_t56_open(
     tag: &[u8],
     out: &mut [u8],
 ) -> RomulusAnswer
-    ensures { OpenTold t_scheme (skinny-of 56) key.now nonce.now ad.now text.now tag.now out.old result out.new }
+    ensures { OpenTold t_scheme (skinny_of 56) key.now nonce.now ad.now text.now tag.now out.old result out.new }
 {
     open(&RomulusT, Rounds::FiftySix, key, nonce, ad, text, tag, out)
 }
@@ -221,7 +221,7 @@ pub extern "C" fn romulus_c_t56_open(
 /// Hashes an input by Romulus-H on 40 rounds, and answers 0 or the refusal's number.
 #[unsafe(no_mangle)]
 pub extern "C" fn romulus_c_h40_hash(input: &[u8], digest: &mut [u8]) -> u32
-    ensures { HashTold (skinny-of 40) input.now digest.old result digest.new }
+    ensures { HashTold (skinny_of 40) input.now digest.old result digest.new }
 {
     digest_into(Rounds::Forty, input, digest)
 }
@@ -229,7 +229,7 @@ pub extern "C" fn romulus_c_h40_hash(input: &[u8], digest: &mut [u8]) -> u32
 /// Hashes an input by Romulus-H on 56 rounds, and answers 0 or the refusal's number.
 #[unsafe(no_mangle)]
 pub extern "C" fn romulus_c_h56_hash(input: &[u8], digest: &mut [u8]) -> u32
-    ensures { HashTold (skinny-of 56) input.now digest.old result digest.new }
+    ensures { HashTold (skinny_of 56) input.now digest.old result digest.new }
 {
     digest_into(Rounds::FiftySix, input, digest)
 }

@@ -3,9 +3,9 @@ ghost use Rattle.std.specs.Prelude.{◌≡◌, [], ◌∷◌, None};
 ghost use Rattle.refusals.specs.Refusals.{first_no};
 ghost use Rattle.skinny.specs.RoundCount.{round_count};
 ghost use Rattle.promise.specs.Calls.{Seal, Open};
-ghost use Rattle.post.specs.Post.{standing_of as postStanding};
-ghost use Rattle.romulus_c.specs.Kept.{known as isKnown, kept_questions, reply as replyOf, Carried};
-ghost use Rattle.romulus_c.specs.Carry.{loaded, answer_of, count_of, pending_of, after, Room, told as toldOf};
+ghost use Rattle.post.specs.Post.{standing_of as post_standing};
+ghost use Rattle.romulus_c.specs.Kept.{known as is_known, kept_questions, reply as reply_of, Carried};
+ghost use Rattle.romulus_c.specs.Carry.{loaded, answer_of, count_of, pending_of, after, Room, told as told_of};
 
 use mode::Mode;
 use nonces::Counting;
@@ -73,7 +73,7 @@ pub(crate) const MOST_CALLS: u64 = 1 << 40;
 
 // Whether the library has such a mode and such rounds.
 pub(crate) fn known(mode: u32, rounds: u32) -> bool
-    ensures { result ≡ isKnown mode rounds }
+    ensures { result ≡ is_known mode rounds }
 {
     (mode == MODE_N || mode == MODE_M || mode == MODE_T) && (rounds == 40 || rounds == 56)
 }
@@ -122,7 +122,7 @@ pub(crate) fn rounds_of(post: &RomulusPost) -> Rounds
 fn load<M: Mode + Drop>(mode: M, rounds: Rounds, post: &RomulusPost) -> Post<M, Skinny, Counting>
     requires sound { first_no (kept_questions post.now) ≡ None }
     requires rounds { round_count rounds ≡ post.now.rounds }
-    ensures { postStanding answer_of count_of pending_of result ≡ loaded post.now }
+    ensures { post_standing answer_of count_of pending_of result ≡ loaded post.now }
 {
     let source = Counting::new(&post.prefix.to_be_bytes(), post.count, post.amount).unwrap();
     Post::new(mode, Skinny::new(rounds), source, &post.key, post.left).unwrap()
@@ -143,7 +143,7 @@ fn carry(post: &mut RomulusPost, reading: Reading, cost: u64)
 }
 
 fn told(outcome: &Outcome) -> RomulusPostAnswer
-    ensures { result ≡ toldOf outcome.now }
+    ensures { result ≡ told_of outcome.now }
 {
     let (nonce_high, nonce_low) = outcome.nonce;
     RomulusPostAnswer {
@@ -166,7 +166,7 @@ pub(crate) fn seal_by<M: Mode + Drop>(
 ) -> RomulusPostAnswer
     requires sound { first_no (kept_questions post.old) ≡ None }
     requires rounds { round_count rounds ≡ post.old.rounds }
-    ensures { Carried M.scheme post.old (Seal ad.now message.now out.old tag.old) (replyOf result (out.new ∷ tag.new ∷ [])) post.new }
+    ensures { Carried M.scheme post.old (Seal ad.now message.now out.old tag.old) (reply_of result (out.new ∷ tag.new ∷ [])) post.new }
 {
     let mut inner = load(mode, rounds, post);
     let outcome = inner.seal(ad, message, out, tag);
@@ -188,7 +188,7 @@ pub(crate) fn open_by<M: Mode + Drop>(
 ) -> RomulusPostAnswer
     requires sound { first_no (kept_questions post.old) ≡ None }
     requires rounds { round_count rounds ≡ post.old.rounds }
-    ensures { Carried M.scheme post.old (Open nonce.now ad.now text.now tag.now out.old) (replyOf result (out.new ∷ [])) post.new }
+    ensures { Carried M.scheme post.old (Open nonce.now ad.now text.now tag.now out.old) (reply_of result (out.new ∷ [])) post.new }
 {
     let mut inner = load(mode, rounds, post);
     let outcome = inner.open(nonce, ad, text, tag, out);

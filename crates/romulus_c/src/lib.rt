@@ -3,6 +3,7 @@
 //! A direct call is named after its mode and the rounds of its cipher, so that none can ask for a cipher that does not exist.
 //! A slice crosses as a pointer and a length. Nothing allocates, and nothing is kept from call to call but what the host keeps.
 #![tactic(auto)]
+
 mod direct;
 mod exports;
 mod kept;

@@ -2,8 +2,8 @@
 ghost use Rattle.std.specs.Prelude.{◌≡◌, [], ◌∷◌};
 ghost use Rattle.refusals.specs.Refusals.{first_no};
 ghost use Rattle.promise.specs.Calls.{Seal, Open};
-ghost use Rattle.romulus_c.specs.Kept.{held as held_of, blank as blankOf, newly, all_questions, kept_questions, reply as replyOf, unread as unreadOf, MakeTold, CallTold, ReadTold};
-ghost use Rattle.romulus_c.specs.Carry.{refused as refusedOf};
+ghost use Rattle.romulus_c.specs.Kept.{held as held_of, blank as blank_of, newly, all_questions, kept_questions, reply as reply_of, unread as unread_of, MakeTold, CallTold, ReadTold};
+ghost use Rattle.romulus_c.specs.Carry.{refused as refused_of};
 ghost use Rattle.romulus_c.specs.Promised.{EveryKeptRun, EveryTwoKeptRuns};
 
 use crate::kept::{
@@ -17,7 +17,7 @@ use romulus_n::RomulusN;
 use romulus_t::RomulusT;
 
 fn blank() -> RomulusPost
-    ensures { result ≡ blankOf }
+    ensures { result ≡ blank_of }
 {
     RomulusPost {
         mode: 0,
@@ -93,7 +93,7 @@ pub extern "C" fn romulus_c_post_make(
 }
 
 fn refused(refusal: Refusal) -> RomulusPostAnswer
-    ensures { result ≡ refusedOf refusal }
+    ensures { result ≡ refused_of refusal }
 {
     RomulusPostAnswer {
         number: refusal.number() as u32,
@@ -112,7 +112,7 @@ pub extern "C" fn romulus_c_post_seal(
     out: &mut [u8],
     tag: &mut [u8],
 ) -> RomulusPostAnswer
-    ensures { CallTold post.old (Seal ad.now message.now out.old tag.old) (first_no (kept_questions post.old)) (replyOf result (out.new ∷ tag.new ∷ [])) post.new }
+    ensures { CallTold post.old (Seal ad.now message.now out.old tag.old) (first_no (kept_questions post.old)) (reply_of result (out.new ∷ tag.new ∷ [])) post.new }
 {
     if let Some(refusal) = ask(post) {
         clear(out);
@@ -137,7 +137,7 @@ pub extern "C" fn romulus_c_post_open(
     tag: &[u8],
     out: &mut [u8],
 ) -> RomulusPostAnswer
-    ensures { CallTold post.old (Open nonce.now ad.now text.now tag.now out.old) (first_no (kept_questions post.old)) (replyOf result (out.new ∷ [])) post.new }
+    ensures { CallTold post.old (Open nonce.now ad.now text.now tag.now out.old) (first_no (kept_questions post.old)) (reply_of result (out.new ∷ [])) post.new }
 {
     if let Some(refusal) = ask(post) {
         clear(out);
@@ -152,7 +152,7 @@ pub extern "C" fn romulus_c_post_open(
 }
 
 fn unread(refusal: Refusal) -> RomulusReading
-    ensures { result ≡ unreadOf refusal }
+    ensures { result ≡ unread_of refusal }
 {
     RomulusReading {
         number: refusal.number() as u32,
@@ -184,7 +184,7 @@ pub extern "C" fn romulus_c_post_read(post: &RomulusPost) -> RomulusReading
 #[unsafe(no_mangle)]
 pub extern "C" fn romulus_c_post_retire(post: &mut RomulusPost) -> RomulusReading
     ensures reading { ReadTold post.old (first_no (kept_questions post.old)) result }
-    ensures ended { post.new ≡ blankOf }
+    ensures ended { post.new ≡ blank_of }
 {
     let reading = romulus_c_post_read(post);
     *post = blank();

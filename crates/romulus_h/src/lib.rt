@@ -1,5 +1,6 @@
 //! Romulus-H over any cipher: the hash of a text, and a hasher that takes a text in part by part.
 #![tactic(auto)]
+
 ghost use Rattle.std.specs.Prelude.{◌≡◌, ◌*◌, ◌/◌, ◌<◌, true, ◌++◌, length, take, drop, is_some};
 ghost use Rattle.refusals.specs.Refusals.{first_no};
 ghost use Rattle.byte_blocks.specs.Bytes.{xors};

@@ -1,5 +1,6 @@
 //! Romulus-M over any cipher: authenticated encryption that stands a repeated nonce.
 #![tactic(auto)]
+
 ghost use Rattle.std.specs.Prelude.{◌≡◌, ℕ, ◌+◌, ◌/◌, map, length};
 ghost use Rattle.byte_blocks.specs.Counter.{counter, advanced};
 ghost use Rattle.byte_blocks.specs.Block.{padded, blocks, block_count, zero_block};

@@ -1,5 +1,6 @@
 //! Romulus-N over any cipher: nonce-based authenticated encryption.
 #![tactic(auto)]
+
 ghost use Rattle.std.specs.Prelude.{◌≡◌, ◌+◌, ◌/◌, length};
 ghost use Rattle.byte_blocks.specs.Block.{block_count, if_short};
 ghost use Rattle.cipher.specs.Cipher.{Called, enciphered};

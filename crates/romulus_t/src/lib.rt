@@ -1,5 +1,6 @@
 //! Romulus-T over any cipher: authenticated encryption that re-keys from block to block, with a hash for the tag.
 #![tactic(auto)]
+
 ghost use Rattle.std.specs.Prelude.{◌≡◌, ◌*◌, ◌++◌, length, Decides};
 ghost use Rattle.byte_blocks.specs.Bytes.{xors};
 ghost use Rattle.byte_blocks.specs.Counter.{counter};

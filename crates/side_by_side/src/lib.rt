@@ -1,5 +1,6 @@
 //! Lists of requests that a post serves, and two posts of one mode side by side, with all that a post promises.
 #![tactic(auto)]
+
 mod sides;
 mod turns;
 

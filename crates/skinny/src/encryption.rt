@@ -2,7 +2,7 @@
 ghost use Rattle.std.specs.Prelude.{◌≡◌, ℕ, ◌+◌, ◌%◌, ◌^◌, ◌≤◌, List};
 ghost use Rattle.skinny.specs.RoundCount.{round_count};
 ghost use Rattle.skinny.specs.Schedule.{four_tweakeys};
-ghost use Rattle.skinny.specs.Skinny.{rounds as rounds-of, skinny as skinny-of};
+ghost use Rattle.skinny.specs.Skinny.{rounds as rounds_of, skinny as skinny_of};
 ghost use Rattle.skinny.specs.Sixteen.{answer_long};
 ghost use Rattle.std.proofs.Common.{rules};
 
@@ -13,7 +13,7 @@ use crate::{Rounds, Skinny};
 use cipher::Cipher;
 
 impl Cipher for Skinny {
-    ghost answer = { λ s. skinny-of (round_count s.rounds) };
+    ghost answer = { λ s. skinny_of (round_count s.rounds) };
 
     ghost count = { λ s. s.calls % 2 ^ 64 };
 
@@ -29,7 +29,7 @@ impl Cipher for Skinny {
 
 /// The cipher's answer for a block under a tweakey.
 fn answer(rounds: Rounds, tweakey: &[u8; 48], block: &[u8; 16]) -> [u8; 16]
-    ensures { result ≡ skinny-of (round_count rounds) tweakey.now block.now }
+    ensures { result ≡ skinny_of (round_count rounds) tweakey.now block.now }
 {
     let mut thirds = Thirds::new(tweakey);
     let mut s = *block;
@@ -44,7 +44,7 @@ fn answer(rounds: Rounds, tweakey: &[u8; 48], block: &[u8; 16]) -> [u8; 16]
 /// Four rounds, from round `n` on, with their round tweakeys.
 fn four_rounds(n: usize, tweakeys: &[[u8; 8]; 4], s: &[u8; 16]) -> [u8; 16]
     requires { n + 4 ≤ 56 }
-    ensures { (T b : List ℕ) → tweakeys.now ≡ four_tweakeys T n → s.now ≡ rounds-of T b n → result ≡ rounds-of T b (n + 4) }
+    ensures { (T b : List ℕ) → tweakeys.now ≡ four_tweakeys T n → s.now ≡ rounds_of T b n → result ≡ rounds_of T b (n + 4) }
 {
     let s1 = round(round_constant(n), &tweakeys[0], s);
     let s2 = round(round_constant(n + 1), &tweakeys[1], &s1);

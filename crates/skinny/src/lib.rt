@@ -1,5 +1,6 @@
 //! The block cipher Skinny-128-384, with 40 or with 56 rounds.
 #![tactic(auto)]
+
 mod constants;
 mod encryption;
 mod round;

@@ -1,6 +1,6 @@
 //! One round.
 ghost use Rattle.std.specs.Prelude.{◌≡◌};
-ghost use Rattle.skinny.specs.Skinny.{sub_cells, add_constants, add_round_tweakey, shift_rows, mix_columns, round as round-of};
+ghost use Rattle.skinny.specs.Skinny.{sub_cells, add_constants, add_round_tweakey, shift_rows, mix_columns, round as round_of};
 
 use crate::sbox::s8;
 
@@ -56,7 +56,7 @@ fn diffused(c: u8, k: &[u8; 8], s: &[u8; 16]) -> [u8; 16]
 
 /// A round with its constant and its round tweakey.
 pub fn round(c: u8, k: &[u8; 8], s: &[u8; 16]) -> [u8; 16]
-    ensures { result ≡ round-of c k.now s.now }
+    ensures { result ≡ round_of c k.now s.now }
 {
     diffused(c, k, &substituted(s))
 }

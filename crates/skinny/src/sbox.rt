@@ -1,6 +1,6 @@
 //! The S-box.
 ghost use Rattle.std.specs.Prelude.{◌≡◌};
-ghost use Rattle.skinny.specs.Skinny.{s8 as s8-of};
+ghost use Rattle.skinny.specs.Skinny.{s8 as s8_of};
 
 /// S8 at each byte.
 const S8: [u8; 256] = [
@@ -24,7 +24,7 @@ const S8: [u8; 256] = [
 
 /// S8 of a byte.
 pub fn s8(x: u8) -> u8
-    ensures { result ≡ s8-of x }
+    ensures { result ≡ s8_of x }
 {
     S8[x as usize]
 }

@@ -2,20 +2,20 @@
 ghost use Rattle.std.specs.Prelude.{◌≡◌, ℕ, ◌+◌, List, map, bit_xor};
 ghost use Rattle.std.specs.Simd.Lanes.{zip2};
 ghost use Rattle.skinny.specs.Schedule.{InRound, four_tweakeys};
-ghost use Rattle.skinny.specs.Skinny.{lfsr2 as lfsr2-of, lfsr3 as lfsr3-of, permuted};
+ghost use Rattle.skinny.specs.Skinny.{lfsr2 as lfsr2_of, lfsr3 as lfsr3_of, permuted};
 
 use std::simd::prelude::*;
 
 /// The LFSR of TK2 on each cell.
 fn lfsr2(t: u8x16) -> u8x16
-    ensures { result ≡ map lfsr2-of t }
+    ensures { result ≡ map lfsr2_of t }
 {
     (t << u8x16::splat(1)) | (((t >> u8x16::splat(7)) ^ (t >> u8x16::splat(5))) & u8x16::splat(1))
 }
 
 /// The LFSR of TK3 on each cell.
 fn lfsr3(t: u8x16) -> u8x16
-    ensures { result ≡ map lfsr3-of t }
+    ensures { result ≡ map lfsr3_of t }
 {
     (t >> u8x16::splat(1)) | ((t ^ (t >> u8x16::splat(6))) << u8x16::splat(7))
 }
@@ -50,8 +50,8 @@ impl Thirds {
     /// The LFSRs on all cells. Two updates do that too, since they bring each cell into the upper rows once.
     fn stepped(self) -> Self
         ensures first { result.first ≡ self.first }
-        ensures second { result.second ≡ map lfsr2-of self.second }
-        ensures third { result.third ≡ map lfsr3-of self.third }
+        ensures second { result.second ≡ map lfsr2_of self.second }
+        ensures third { result.third ≡ map lfsr3_of self.third }
     {
         Thirds {
             first: self.first,

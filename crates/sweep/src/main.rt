@@ -1,6 +1,7 @@
 //! Every mode on every cipher, at each data length 0 to 49 and message length 0 to 50: sealed, opened, and opened damaged.
 //! It prints totals and a digest over all frames, which an independent implementation is held to.
 #![tactic(auto)]
+
 mod case;
 mod totals;
 

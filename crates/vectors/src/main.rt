@@ -1,5 +1,6 @@
 //! Published vectors and cases that are run.
 #![tactic(auto)]
+
 mod posts;
 mod published;
 mod sizes;

@@ -1,5 +1,6 @@
 //! A week in the workshop: one settings record, from the counter to the loading dock.
 #![tactic(auto)]
+
 mod days;
 mod frame;
 mod posts;
