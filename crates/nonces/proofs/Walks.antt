@@ -1,6 +1,6 @@
 -- One turn of the walks over a sheet and over a count, and what their answer says.
 use Rattle.std.proofs.Common.{◌≡◌, ℕ, zero, suc, ◌+◌, ◌-◌, ◌^◌, ◌<◌, ◌≤◌, Bool, true, false, ◌||◌, eqb, ltb, ◌≢◌, List, [], ◌∷◌, ◌++◌, length, get_or, take, drop, Decides, sym, refl, ap, ◌∙◌, ⊎_elim, arith}
-use Rattle.std.specs.List.{AllByRecursion as All}
+use Rattle.std.specs.List.{AllByRecursion}
 use Rattle.std.specs.Str.{bytes_eq}
 use Rattle.std.proofs.lemmas.Slice.Eq.{bytes_eq-Decides}
 use Rattle.std.proofs.lemmas.List.{take_rest}
@@ -53,14 +53,14 @@ pub stands_here : (n : List ℕ) (xs : List ℕ) → 2 ≤ length xs → n ≡ f
 stands_here n xs h e = sym (ap (listed n) (sheet_more xs h) ∙ ap (λ (b : Bool). b || listed n (sheet_nonces (rest xs))) ((bytes_eq-Decides n (first xs)).1 e))
 
 -- ---- repeats
-listed_apart : (n : List ℕ) (ns : List (List ℕ)) → listed n ns ≡ true → All (λ m. n ≢ m) ns → ⊥
+listed_apart : (n : List ℕ) (ns : List (List ℕ)) → listed n ns ≡ true → AllByRecursion (λ m. n ≢ m) ns → ⊥
 listed_apart n [] e a = true≢false (sym e)
 listed_apart n (m ∷ ms) e a = ⊎_elim (λ s. a.0 ((bytes_eq-Decides n m).0 s)) (λ r. listed_apart n ms r a.1) (or_cases (bytes_eq n m) (listed n ms) e)
 
 rest_apart : {X : Type 0} (x : X) (xs : List X) → NoRepeats (x ∷ xs) → NoRepeats xs
 rest_apart x xs n i j (h, l) d e = n (suc i) (suc j) (omega arith, omega arith) d e
 
-first_apart : {X : Type 0} (x : X) (xs : List X) → NoRepeats (x ∷ xs) → All (λ y. x ≢ y) xs
+first_apart : {X : Type 0} (x : X) (xs : List X) → NoRepeats (x ∷ xs) → AllByRecursion (λ y. x ≢ y) xs
 first_apart x xs n = All-from_get_or (λ y. x ≢ y) xs x (λ i h e. n 0 (suc i) (omega arith, omega arith) x e)
 
 -- the rest repeats none exactly when the whole does not, where the first does not come again

@@ -1,6 +1,6 @@
 -- Every run keeps the promises of one post.
 use Rattle.std.proofs.Common.{◌≡◌, ℕ, ◌+◌, ◌-◌, ◌*◌, ◌<◌, ◌≤◌, min, Bool, true, false, cond, eqb, leb, ◌≢◌, List, [], ◌∷◌, ◌++◌, map, length, get_or, take, drop, replicate, Some, None, Option, sym, refl, ap, ◌∙◌, subst, zero-add, one-add, arith}
-use Rattle.std.specs.List.{AllByRecursion as All}
+use Rattle.std.specs.List.{AllByRecursion}
 use Rattle.std.specs.Int.Digits.{number_from_digits_after}
 use Rattle.std.proofs.ByRecursion.{All-take, All-drop, All-get_or}
 use Rattle.std.proofs.lemmas.List.{length-take, length-drop, length-map, get_or-map, get_or-take, take-append-drop}
@@ -188,7 +188,7 @@ opens m ok g es r =
 -- ---- never twice
 
 -- equally many digits that write one number are the same
-same_digits : (x y : ℕ) (xs ys : List ℕ) → length xs ≡ length ys → All (λ b. b < 256) xs → All (λ b. b < 256) ys → number_from_digits_after 256 x xs ≡ number_from_digits_after 256 y ys → (x ≡ y) × (xs ≡ ys)
+same_digits : (x y : ℕ) (xs ys : List ℕ) → length xs ≡ length ys → AllByRecursion (λ b. b < 256) xs → AllByRecursion (λ b. b < 256) ys → number_from_digits_after 256 x xs ≡ number_from_digits_after 256 y ys → (x ≡ y) × (xs ≡ ys)
 same_digits x y [] [] l a b e = (e, refl)
 same_digits x y [] (d ∷ ys) l a b e = absurd (omega arith)
 same_digits x y (c ∷ xs) [] l a b e = absurd (omega arith)

@@ -1,6 +1,6 @@
 -- Runs of a kept post are runs of the library's.
 use Rattle.std.proofs.Common.{◌≡◌, ℕ, zero, suc, ◌%◌, ◌<◌, cond, eqb, List, [], ◌∷◌, get_or, None, Option, sym, refl, ap, ◌∙◌, subst, arith}
-use Rattle.std.specs.List.{AllByRecursion as All}
+use Rattle.std.specs.List.{AllByRecursion}
 use Rattle.std.proofs.lemmas.Bool.{cond_both}
 use Rattle.refusals.specs.declared.Refusal.{Refusal}
 use Rattle.refusals.specs.Refusals.{first_no}
@@ -45,7 +45,7 @@ made_run made p es p' h r =
 low : (n : ℕ) → n % 256 < 256
 low n = omega arith
 
-byte_at : (xs : List ℕ) (i : ℕ) → All (λ b. b < 256) xs → get_or xs i 0 < 256
+byte_at : (xs : List ℕ) (i : ℕ) → AllByRecursion (λ b. b < 256) xs → get_or xs i 0 < 256
 byte_at [] i h = omega arith
 byte_at (x ∷ xs) zero h = h.0
 byte_at (x ∷ xs) (suc i) h = byte_at xs i h.1
