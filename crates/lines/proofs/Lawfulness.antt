@@ -1,5 +1,5 @@
 -- The laws of an answer.
-use Rattle.std.proofs.Common.{◌≡◌, ℕ, ◌≤◌, List, [], ◌∷◌, length, take, drop, Ok, Err, Result, sym, refl, ap, ◌∙◌, subst, arith}
+use Rattle.std.proofs.Common.{◌≡◌, ℕ, ◌≤◌, List, ◌∷◌, length, take, drop, Ok, Err, Result, sym, refl, ap, ◌∙◌, subst, arith}
 use Rattle.hex_lines.specs.declared.fault.LineFault.{LineFault}
 use Rattle.hex_lines.specs.declared.fault.FrameFault.{FrameFault}
 use Rattle.hex_lines.specs.declared.fault.Fault.{Fault}

@@ -1,5 +1,5 @@
 -- The pass the other way gives the text back, and leaves the same state.
-use Rattle.std.proofs.Common.{◌≡◌, ℕ, zero, suc, ◌+◌, ◌-◌, ◌/◌, ◌<◌, ◌≤◌, List, ◌++◌, length, take, drop, refl, ◌∙◌, arith}
+use Rattle.std.proofs.Common.{◌≡◌, ℕ, zero, suc, ◌-◌, ◌/◌, ◌<◌, ◌≤◌, List, ◌++◌, length, take, drop, refl, ◌∙◌, arith}
 use Rattle.std.proofs.lemmas.List.{length-drop, length-append, length-take-le, take_at, drop_at, take-append-drop}
 use Rattle.byte_blocks.proofs.Leaves.{length-xors, xors_twice}
 use Rattle.byte_blocks.specs.Bytes.{xors, g_of}

@@ -1,4 +1,4 @@
-use Rattle.std.proofs.Common.{◌≡◌, ℕ, length, sym, ap, ◌∙◌}
+use Rattle.std.proofs.Common.{◌≡◌, length, sym, ap, ◌∙◌}
 use Rattle.mode.specs.declared.Costs.{Costs}
 use Rattle.mode.specs.declared.Outcome.{Outcome}
 use Rattle.mode.specs.Calls.{verdict_outcome}

@@ -1,4 +1,4 @@
-use Rattle.std.proofs.Common.{◌≡◌, length, arith}
+use Rattle.std.proofs.Common.{arith}
 use Rattle.nonces.specs.Nonces.{NoRepeats}
 use Rattle.nonces.specs.Sources.{sheet_nonces}
 use Rattle.nonces.proofs.Walks.{last_places_same}

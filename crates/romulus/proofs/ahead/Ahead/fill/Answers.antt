@@ -1,4 +1,4 @@
-use Rattle.std.proofs.Common.{◌≡◌, ℕ, ◌-◌, ◌≤◌, ltb, length, sym, refl, ap, ◌∙◌, arith, rules}
+use Rattle.std.proofs.Common.{◌≡◌, ◌-◌, ◌≤◌, ltb, length, sym, refl, ap, ◌∙◌, arith, rules}
 use Rattle.romulus.proofs.Waiting.{length_part, tail_cleared, tail_long}
 use Rattle.romulus.proofs.ahead.Ahead.fill.Goals as goal
 

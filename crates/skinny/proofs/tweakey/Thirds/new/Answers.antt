@@ -1,4 +1,4 @@
-use Rattle.std.proofs.Common.{◌≤◌, lit≤}
+use Rattle.std.proofs.Common.{lit≤}
 use Rattle.std.proofs.lemmas.List.{take-take}
 use Rattle.skinny.specs.Skinny.{updated, tk1, tk2, tk3}
 use Rattle.skinny.proofs.tweakey.Thirds.new.Goals as goal
