@@ -2,8 +2,8 @@
    refused, and the day's sheet is hashed.
 
    From the repository's root:
-       rt staticlib romulus_c
-       gcc -std=c99 -O2 -Iinclude examples/host.c target/staticlib/libromulus_c.a -o target/host && target/host */
+       (cd crates/romulus_c && rt lib)
+       gcc -std=c99 -O2 -Iinclude examples/host.c crates/romulus_c/out/libromulus_c.a -o host && ./host */
 #include "romulus.h"
 #include <stdio.h>
 #include <stdlib.h>
