@@ -1,4 +1,3 @@
 pub mod Absorbing
 pub mod Walking
 pub mod Back
-pub mod Found

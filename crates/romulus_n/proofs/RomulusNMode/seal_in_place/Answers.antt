@@ -1,4 +1,4 @@
-use Rattle.std.proofs.Common.{◌≡◌, length, sym, ap, ◌∙◌, arith}
+use Rattle.std.proofs.Common.{◌≡◌, ℕ, List, length, sym, ap, ◌∙◌, arith}
 use Rattle.byte_blocks.specs.Bytes.{g_of}
 use Rattle.cipher.proofs.Calls.{called_then, called_as}
 use Rattle.mode.proofs.Judging.{pairs}
