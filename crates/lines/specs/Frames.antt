@@ -22,28 +22,28 @@ abbrev pub cipher_of : ℕ → Option CipherName
 cipher_of byte = cond (byte == 0x28) (Some Skinny40) (cond (byte == 0x38) (Some Skinny56) (cond (byte == 0x00) (Some StandIn) None))
 
 -- The body of a frame to be sealed or opened, behind its letter, begins with 16 bytes of nonce.
-abbrev pub nonce_of : (body : List ℕ) → List ℕ
+abbrev pub nonce_of : List ℕ → List ℕ
 nonce_of body = take 16 body
 
 -- Two bytes tell the length of the associated data, the highest first.
 -- Where they are 1 and 2 it is 258.
-abbrev pub ad_length : (body : List ℕ) → ℕ
+abbrev pub ad_length : List ℕ → ℕ
 ad_length body = slice_index body 16 * 256 + slice_index body 17
 
 -- The associated data: where its length is 2, bytes 18 and 19 of the body.
-abbrev pub ad_of : (body : List ℕ) → List ℕ
+abbrev pub ad_of : List ℕ → List ℕ
 ad_of body = take (ad_length body) (drop 18 body)
 
 -- What follows the data: the message or, in a sealed frame, the ciphertext and the tag. Where the data has 2 bytes, all from byte 20 on.
-abbrev pub text_of : (body : List ℕ) → List ℕ
+abbrev pub text_of : List ℕ → List ℕ
 text_of body = drop (18 + ad_length body) body
 
 -- The ciphertext: all but the last 16 bytes; of 20 bytes the first 4.
-abbrev pub without_tag : (text : List ℕ) → List ℕ
+abbrev pub without_tag : List ℕ → List ℕ
 without_tag text = take (length text - 16) text
 
 -- The tag: the last 16 bytes; of 20 bytes those from byte 4 on.
-abbrev pub tag_of : (text : List ℕ) → List ℕ
+abbrev pub tag_of : List ℕ → List ℕ
 tag_of text = drop (length text - 16) text
 
 -- What a frame asks for: to hold a key, to hold a cipher, to seal a message, to open a sealed frame, or to hash a text.
