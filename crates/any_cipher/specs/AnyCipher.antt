@@ -6,7 +6,7 @@ use Rattle.skinny.specs.RoundCount.{round_count}
 use Rattle.any_cipher.specs.declared.AnyCipher.{AnyCipher}
 use Rattle.any_cipher.specs.declared.AnyCipher.TheVariants.{Skinny, StandIn}
 
--- What it answers: Skinny with its 40 or 56 rounds, or the bench stand_in.
+-- What it answers: Skinny with its 40 or 56 rounds, or the bench stand-in.
 abbrev pub any_answer : AnyCipher → Answer
 any_answer (Skinny s) = skinny (round_count s.rounds)
 any_answer (StandIn s) = stand_in

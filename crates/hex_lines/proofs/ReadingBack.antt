@@ -2,12 +2,8 @@
 use Rattle.std.proofs.Common.{◌≡◌, ℕ, suc, ◌+◌, ◌*◌, ◌/◌, ◌%◌, ◌<◌, List, [], ◌∷◌, length, get_or, is_some, Some, None, unwrap_or, refl, ap, ◌∙◌, arith}
 use Rattle.std.proofs.lemmas.Bool.{cond-true, cond-false, le-ltb, ne_eqb}
 use Rattle.std.proofs.lemmas.Bool.Decides.{nat_tests}
-use Rattle.hex_lines.specs.Digits.{digit_value, first_bad, digits_check, byte_of, bytes_of, digit_of, digits_of, ReadBack}
+use Rattle.hex_lines.specs.Digits.{digit_value, first_bad, digits_check, byte_of, bytes_of, digit_of, digits_of, Bytes, ReadBack}
 use Rattle.hex_lines.proofs.Spelling.{length_digits}
-
--- each is a byte
-abbrev pub Bytes : List ℕ → Type 0
-Bytes xs = (i : ℕ) → get_or xs i 0 < 256
 
 pub digit_back : (v : ℕ) → v < 16 → digit_value (digit_of v) ≡ Some v
 digit_back v h = grind (arith, nat_tests)

@@ -17,7 +17,7 @@ kind_of letter =
     (cond (letter == 0x4e) (Some (Open RomulusN)) (cond (letter == 0x4d) (Some (Open RomulusM)) (cond (letter == 0x54) (Some (Open RomulusT))
     (cond (letter == 0x48) (Some Hash) None))))))))
 
--- The cipher that a byte names: 28 and 38 (hexadecimal, 40 and 56) are the rounds of Skinny, 00 is the bench stand_in.
+-- The cipher that a byte names: 28 and 38 (hexadecimal, 40 and 56) are the rounds of Skinny, 00 is the bench stand-in.
 abbrev pub cipher_of : ℕ → Option CipherName
 cipher_of byte = cond (byte == 0x28) (Some Skinny40) (cond (byte == 0x38) (Some Skinny56) (cond (byte == 0x00) (Some StandIn) None))
 

@@ -14,7 +14,7 @@ use Rattle.lines.specs.declared.frame.Variant.TheVariants.{RomulusN, RomulusM, R
 use Rattle.lines.specs.declared.frame.CipherName.{CipherName}
 use Rattle.lines.specs.declared.frame.CipherName.TheVariants.{Skinny40, Skinny56, StandIn}
 
--- The answers of a named cipher: Skinny with so many rounds, or the bench stand_in.
+-- The answers of a named cipher: Skinny with so many rounds, or the bench stand-in.
 abbrev pub cipher_answer : CipherName → Answer
 cipher_answer Skinny40 = skinny 40
 cipher_answer Skinny56 = skinny 56

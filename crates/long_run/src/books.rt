@@ -113,20 +113,6 @@ impl Books {
             && reading.wrong == self.wrong;
         self.expect(same);
     }
-
-    /// Whether anything was otherwise than it should be.
-    pub(crate) fn differ(&self) -> bool {
-        self.differences != 0
-    }
-
-    /// How many answers and readings the books tell of.
-    pub(crate) fn noted(&self) -> u64 {
-        let mut sum = self.readings;
-        for n in &self.answers {
-            sum = sum.wrapping_add(*n);
-        }
-        sum
-    }
 }
 
 impl fmt::Display for Books {

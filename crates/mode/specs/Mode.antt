@@ -10,7 +10,7 @@ pub record Scheme : Type 0 where
   -- what a seal, a right and a wrong opening cost, in calls of the cipher, from the lengths of data and message
   pub costs : (ad message : ℕ) → Costs
 
--- This message seals to this ciphertext and tag. In Romulus-N on the stand_in, with zeros for key and nonce and no data,
+-- This message seals to this ciphertext and tag. In Romulus-N on the stand-in, with zeros for key and nonce and no data,
 -- the empty message seals to the empty ciphertext and the tag of seven zeros, 0x87 and eight zeros.
 abbrev pub SealsTo : Scheme → Answer → (key nonce ad message text tag : List ℕ) → Type 0
 SealsTo m f key nonce ad message text tag = ◌≡◌ {A = List ℕ × List ℕ} (m.frame f key nonce ad message) (text, tag)

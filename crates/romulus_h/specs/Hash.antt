@@ -14,11 +14,11 @@ marked b (x ∷ xs) = bit_xor x b ∷ xs
 
 module _ (f : Answer) where
   -- The new L from L, R and a block q of 32 bytes: the answer for L under the tweakey R then q, ⊕ L.
-  -- On the stand_in L cancels out: R of sixteen 1s and q of sixteen 2s and sixteen 4s give sixteen 7s.
+  -- On the stand-in L cancels out: R of sixteen 1s and q of sixteen 2s and sixteen 4s give sixteen 7s.
   unfoldable pub left_of : (l r q : List ℕ) → List ℕ
   left_of l r q = xors (f (r ++ q) l) l
 
-  -- The new R: the same from L with ⊕ 1 in its first byte. On the stand_in it is the new L, since L cancels out.
+  -- The new R: the same from L with ⊕ 1 in its first byte. On the stand-in it is the new L, since L cancels out.
   unfoldable pub right_of : (l r q : List ℕ) → List ℕ
   right_of l r q = left_of (marked 1 l) r q
 
@@ -34,7 +34,7 @@ module _ (f : Answer) where
   unfoldable pub digest_from : (l r text : List ℕ) → List ℕ
   digest_from l r text = chained l r (parts 32 (ipad 32 text))
 
-  -- The digest of a text: L and R start as zeros. On the stand_in the byte 0xab has the digest 0xab, fourteen zeros and 1, and the same again.
+  -- The digest of a text: L and R start as zeros. On the stand-in the byte 0xab has the digest 0xab, fourteen zeros and 1, and the same again.
   abbrev pub digest_of : List ℕ → List ℕ
   digest_of text = digest_from zero_block zero_block text
 

@@ -1,5 +1,5 @@
 -- Romulus-M over any cipher: f is the cipher's answers, k the key, n the nonce, ad the associated data. It stands repeated nonces.
--- The examples are on the bench stand_in, with zeros for key and nonce and without data.
+-- The examples are on the bench stand-in, with zeros for key and nonce and without data.
 use Rattle.std.specs.Prelude.{ℕ, zero, suc, ◌+◌, ◌/◌, ◌%◌, cond, List, [], ◌∷◌, ◌++◌, map, length, ◌==◌, bit_xor}
 use Rattle.byte_blocks.specs.Bytes.{xors, g_of}
 use Rattle.byte_blocks.specs.Counter.{stepped, counter}

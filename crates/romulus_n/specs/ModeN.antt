@@ -1,5 +1,5 @@
 -- Romulus-N over any cipher: f is the cipher's answers, k the key, n the nonce, ad the associated data. Its nonces must never repeat under a key.
--- The examples are on the bench stand_in, with zeros for key and nonce and without data.
+-- The examples are on the bench stand-in, with zeros for key and nonce and without data.
 use Rattle.std.specs.Prelude.{ℕ, ◌+◌, ◌/◌, List, map, length}
 use Rattle.byte_blocks.specs.Bytes.{g_of}
 use Rattle.byte_blocks.specs.Counter.{counter}

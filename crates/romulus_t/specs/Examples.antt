@@ -1,4 +1,4 @@
--- Worked examples of Romulus-T, on the bench stand_in with a key and a nonce of zeros.
+-- Worked examples of Romulus-T, on the bench stand-in with a key and a nonce of zeros.
 use Rattle.std.specs.Prelude.{◌≡◌, [], ◌∷◌}
 use Rattle.byte_blocks.specs.Block.{zero_block}
 use Rattle.cipher.specs.Cipher.{stand_in}

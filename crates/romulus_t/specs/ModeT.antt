@@ -1,5 +1,5 @@
 -- Romulus-T over any cipher: f is the cipher's answers, k the key, n the nonce, ad the associated data. Each block of the message has a key of its own.
--- The examples are on the bench stand_in, with zeros for key and nonce.
+-- The examples are on the bench stand-in, with zeros for key and nonce.
 use Rattle.std.specs.Prelude.{ℕ, zero, suc, ◌+◌, ◌*◌, ◌/◌, List, [], ◌++◌, length, take, drop}
 use Rattle.byte_blocks.specs.Bytes.{xors}
 use Rattle.byte_blocks.specs.Counter.{stepped, counter, counter_bytes}

@@ -11,7 +11,7 @@ pub record WorkedExamples : Type 0 where
   pub cipher : SkinnyExamples
   -- counter(8) and counter(56), the two paddings, G on two bytes
   pub parts : BytesExamples
-  -- the frame of all-empty input on the bench stand_in, and costs, in each mode
+  -- the frame of all-empty input on the bench stand-in, and costs, in each mode
   pub mode_n : NExamples
   pub mode_m : MExamples
   pub mode_t : TExamples
