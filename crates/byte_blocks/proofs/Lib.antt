@@ -1,3 +1,4 @@
+pub mod Computed
 pub mod Leaves
 pub mod Pieces
 pub mod Worked

@@ -16,9 +16,9 @@ ended x last = take 15 x ++ (replicate (15 - length x) 0 ++ (last ∷ []))
 unfoldable pub padded : List ℕ → List ℕ
 padded x = cond (nat_lt (length x) 16) (x ++ (replicate (15 - length x) 0 ++ (length x ∷ []))) (take 16 x)
 
--- The first 16 bytes of a text as a block, with zeros where the text is shorter. first_block (0xab ∷ []) is 0xab and fifteen zeros.
-unfoldable pub first_block : List ℕ → List ℕ
-first_block x = take 16 x ++ replicate (16 - length x) 0
+-- The first n bytes of a text, with zeros where the text is shorter. first_bytes 16 (0xab ∷ []) is 0xab and fifteen zeros.
+unfoldable pub first_bytes : ℕ → List ℕ → List ℕ
+first_bytes n x = take n x ++ replicate (n - length x) 0
 
 -- A text extended to the smallest multiple of w above its length, by zeros and a last byte that holds its length modulo w.
 -- A text whose length is a multiple of w gets w bytes more. ipad 4 adds 0 ∷ 0 ∷ 1 ∷ [] to five bytes, and four zeros to four.

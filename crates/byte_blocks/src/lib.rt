@@ -4,7 +4,7 @@
 ghost use Rattle.std.specs.Prelude.{◌≡◌, ◌+◌, ◌-◌, ◌*◌, ◌/◌, ◌%◌, ◌^◌, ◌<◌, ◌++◌, length, Decides};
 ghost use Rattle.byte_blocks.specs.Bytes.{xors, g_byte, g_of};
 ghost use Rattle.byte_blocks.specs.Counter.{stepped, counter_bytes};
-ghost use Rattle.byte_blocks.specs.Block.{ended, padded, first_block, tweakey_head, tweakey_of, if_short, block_count, BlocksCut};
+ghost use Rattle.byte_blocks.specs.Block.{ended, padded, first_bytes, tweakey_head, tweakey_of, if_short, block_count, BlocksCut};
 
 /// The counter, one step on. Bits above the 56th do not count.
 pub fn step(c: u64) -> u64
@@ -22,6 +22,7 @@ pub fn counter_bytes(c: u64) -> [u8; 7]
 }
 
 /// G on one byte.
+#[tactic(auto, using(crate::proofs::Leaves::g_code))]
 pub fn g(x: u8) -> u8
     ensures { result ≡ g_byte x }
 {
@@ -32,6 +33,7 @@ pub fn g(x: u8) -> u8
 pub fn g_block(s: &[u8; 16]) -> [u8; 16]
     ensures { result ≡ g_of s.now }
 {
+    // a loop, since an array's `map` takes fifteen times as long
     let mut r = *s;
     for x in r.iter_mut() {
         *x = g(*x);
@@ -40,58 +42,56 @@ pub fn g_block(s: &[u8; 16]) -> [u8; 16]
 }
 
 /// Adds the bytes of `x` to those of `s`, as far as both go.
+#[tactic(auto, using(crate::proofs::Leaves::xors_more, crate::proofs::Leaves::xors_all))]
 pub fn xor_into(s: &mut [u8], x: &[u8])
     ensures { s.new ≡ xors s.old x.now }
 {
-    let n = s.len().min(x.len());
-    for i in 0..n {
+    // by index: what is written through the items of a zip is not known afterwards
+    for i in 0..s.len().min(x.len()) {
         s[i] ^= x[i];
     }
 }
 
+/// The first N bytes of a text as a block, with zeros where the text is shorter. A text of N bytes is that block.
+#[tactic(auto, using(crate::proofs::Leaves::front_put))]
+pub fn block_of<const N: usize>(text: &[u8]) -> [u8; N]
+    ensures value { result ≡ first_bytes N text.now }
+    ensures whole { length text.now ≡ N → result ≡ text.now }
+{
+    let mut block = [0; N];
+    let n = text.len().min(N);
+    block[..n].copy_from_slice(&text[..n]);
+    block
+}
+
 /// The block that ends a text: what is left of it, at most 15 bytes, then zeros and a last byte.
+// out of line, so that `pad` moves a whole block at once
+#[inline(never)]
+#[tactic(auto, using(crate::proofs::Leaves::end_put))]
 pub fn end_block(rest: &[u8], last: u8) -> [u8; 16]
     ensures { result ≡ ended rest.now last }
 {
-    let mut block = [0; 16];
-    let n = rest.len().min(15);
-    block[0..n].copy_from_slice(&rest[0..n]);
+    let mut block = block_of(rest);
     block[15] = last;
     block
 }
 
 /// A part of a text, of at most 16 bytes, as a whole block. Of a longer one the first 16 bytes are taken.
+#[tactic(auto, using(crate::proofs::Leaves::pad_short, crate::proofs::Leaves::pad_whole))]
 pub fn pad(part: &[u8]) -> [u8; 16]
     ensures { result ≡ padded part.now }
 {
-    if part.len() < 16 {
-        return end_block(part, part.len() as u8);
+    match part.first_chunk() {
+        Some(block) => *block,
+        None => end_block(part, part.len() as u8),
     }
-    let mut block = [0; 16];
-    block.copy_from_slice(&part[0..16]);
-    block
-}
-
-/// The first 16 bytes of a text as a block, with zeros where the text is shorter. A text of 16 bytes is that block.
-pub fn block_of(text: &[u8]) -> [u8; 16]
-    ensures value { result ≡ first_block text.now }
-    ensures whole { length text.now ≡ 16 → result ≡ text.now }
-{
-    let mut block = [0; 16];
-    let n = text.len().min(16);
-    block[0..n].copy_from_slice(&text[0..n]);
-    block
 }
 
 /// Three blocks, one after the other.
 pub fn thirds(x: &[u8; 16], y: &[u8; 16], z: &[u8; 16]) -> [u8; 48]
     ensures { result ≡ x.now ++ (y.now ++ z.now) }
 {
-    let mut r = [0; 48];
-    r[0..16].copy_from_slice(x);
-    r[16..32].copy_from_slice(y);
-    r[32..48].copy_from_slice(z);
-    r
+    block_of([*x, *y, *z].as_flattened())
 }
 
 // The first third of a tweakey: the counter, the domain byte and zeros.
@@ -103,6 +103,7 @@ fn head(domain: u8, c: u64) -> [u8; 16]
 }
 
 /// The tweakey of one call under a key with a tweak, a domain byte and a counter.
+#[tactic(auto, unfolding(crate::specs::Block::tweakey_of))]
 pub fn tweakey(key: &[u8; 16], tweak: &[u8; 16], domain: u8, c: u64) -> [u8; 48]
     ensures { result ≡ tweakey_of key.now tweak.now domain c }
 {
@@ -127,15 +128,14 @@ pub fn if_short(len: usize, short: u8, full: u8) -> u8
     }
 }
 
-/// Whether two blocks are equal. It looks at every byte, whatever it saw before.
+/// Whether two blocks are equal. It looks at every byte, whatever it saw before, which `==` does not promise.
 pub fn equal(a: &[u8; 16], b: &[u8; 16]) -> bool
     ensures { Decides result (a.now ≡ b.now) }
 {
-    let mut differences = 0;
-    for i in 0..16 {
-        differences |= a[i] ^ b[i];
-    }
-    differences == 0
+    a.iter()
+        .zip(b)
+        .fold(0, |differences, (x, y)| differences | (x ^ y))
+        == 0
 }
 
 /// Blocks are the text, cut. The theorem stands in the contract; the call does nothing.

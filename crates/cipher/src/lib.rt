@@ -5,7 +5,7 @@ ghost use Rattle.std.specs.Prelude.{◌≡◌, ℕ, ◌+◌, ◌%◌, ◌^◌, �
 ghost use Rattle.cipher.specs.Cipher.{Answer, Sixteen, Called, enciphered, stand_in};
 ghost use Rattle.std.proofs.Common.{rules};
 
-use byte_blocks::tweakey;
+use byte_blocks::{tweakey, xor_into};
 
 /// A tweakable block cipher: one fixed 16-byte answer for each tweakey and block, and a count of its calls modulo 2^64.
 pub trait Cipher {
@@ -16,6 +16,8 @@ pub trait Cipher {
     ghost count: { Self → ℕ };
 
     /// The answer for a block under a tweakey. It adds one to the count, and leaves all answers as they were.
+    // Called stands in the contract of each function that calls a cipher: it relates two states of it, by another number each time,
+    // so that no value could carry it.
     fn encrypt(&mut self, tweakey: &[u8; 48], block: &[u8; 16]) -> [u8; 16]
         ensures value { result ≡ answer self.old tweakey.now block.now }
         ensures called { Called (answer self.old) (count self.old) 1 (answer self.new) (count self.new) };
@@ -27,6 +29,7 @@ pub trait Cipher {
 }
 
 /// One call on the state, under a key with a tweak, a domain byte and a counter.
+#[tactic(auto, unfolding(crate::specs::Cipher::enciphered))]
 pub fn encipher<C: Cipher>(
     cipher: &mut C,
     key: &[u8; 16],
@@ -41,44 +44,72 @@ pub fn encipher<C: Cipher>(
     *s = cipher.encrypt(&tweakey(key, tweak, domain, c), s);
 }
 
-/// The bench stand-in: it answers block ⊕ TK1 ⊕ TK2 ⊕ TK3, so that a result can be worked out by hand. It protects nothing.
+/// A tweakable block cipher that keeps nothing: one fixed 16-byte answer for each tweakey and block.
+pub trait BlockCipher {
+    // What it answers, for each tweakey and block.
+    ghost answer: { Self → Answer };
+
+    /// The answer for a block under a tweakey.
+    fn encrypt_block(&self, tweakey: &[u8; 48], block: &[u8; 16]) -> [u8; 16]
+        ensures { result ≡ answer self.now tweakey.now block.now };
+
+    // Every answer has 16 bytes.
+    ghost sixteen: { (c : Self) → Sixteen (answer c) };
+}
+
+/// A block cipher with a count of its calls, modulo 2^64. It answers as the block cipher does.
 #[derive(Drop)]
-pub struct StandIn {
+pub struct Counted<B> {
+    cipher: B,
     calls: u64,
 }
 
-impl StandIn {
-    /// A stand-in that was never called.
-    pub fn new() -> Self
-        ensures { result.calls ≡ 0 }
+impl<B: BlockCipher> Counted<B> {
+    /// A cipher that was never called.
+    pub fn new(cipher: B) -> Self
+        ensures answers { result.cipher ≡ cipher }
+        ensures fresh { ⟦<Counted<B> as Cipher>⟧.count result ≡ 0 }
     {
-        StandIn { calls: 0 }
+        Counted { cipher, calls: 0 }
     }
 
     /// How often it was called, modulo 2^64.
     pub fn calls(&self) -> u64
-        ensures { result ≡ self.now.calls }
+        ensures { result ≡ ⟦<Counted<B> as Cipher>⟧.count self.now }
     {
-        let StandIn { calls } = self;
-        *calls
+        self.calls
     }
 }
 
-impl Cipher for StandIn {
-    ghost answer = { λ _. stand_in };
+impl<B: BlockCipher> Cipher for Counted<B> {
+    ghost answer = { λ c. B.answer c.cipher };
 
-    ghost count = { λ s. s.calls % 2 ^ 64 };
+    ghost count = { λ c. c.calls % 2 ^ 64 };
 
-    ghost sixteen = { Prim.search rules };
+    ghost sixteen = { λ c. B.sixteen c.cipher };
 
     ghost bounded = { Prim.search rules };
 
     fn encrypt(&mut self, tweakey: &[u8; 48], block: &[u8; 16]) -> [u8; 16] {
-        let mut out = [0; 16];
-        for i in 0..16 {
-            out[i] = block[i] ^ tweakey[i] ^ tweakey[16 + i] ^ tweakey[32 + i];
-        }
         self.calls = self.calls.wrapping_add(1);
-        out
+        self.cipher.encrypt_block(tweakey, block)
+    }
+}
+
+/// The bench stand-in: it answers block ⊕ TK1 ⊕ TK2 ⊕ TK3, so that a result can be worked out by hand. It protects nothing.
+#[derive(Clone, Copy)]
+pub struct StandIn;
+
+impl BlockCipher for StandIn {
+    ghost answer = { λ _. stand_in };
+
+    ghost sixteen = { Prim.search rules };
+
+    fn encrypt_block(&self, tweakey: &[u8; 48], block: &[u8; 16]) -> [u8; 16] {
+        let mut answer = *block;
+        xor_into(&mut answer, &tweakey[0..16]);
+        xor_into(&mut answer, &tweakey[16..32]);
+        xor_into(&mut answer, &tweakey[32..48]);
+        answer
     }
 }

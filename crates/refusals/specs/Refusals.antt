@@ -1,5 +1,5 @@
 -- The questions that a call asks before it works, and the numbers of its refusals.
-use Rattle.std.specs.Prelude.{ℕ, Bool, true, false, List, [], ◌∷◌, Some, None, Option}
+use Rattle.std.specs.Prelude.{ℕ, Bool, true, false, List, [], ◌∷◌, Some, None, Ok, Err, Option, Result}
 use Rattle.refusals.specs.declared.Refusal.{Refusal}
 use Rattle.refusals.specs.declared.Refusal.TheVariants.{CountRange, SheetSize, SheetRepeats, KeyLength, AllowanceSize, DataLength, TextLength, OutputLength, TagLength, NonceLength, AllowanceSpent, NoNonce, WrongFrame, HashLength, DigestLength}
 
@@ -21,10 +21,10 @@ number_of WrongFrame = 13
 number_of HashLength = 14
 number_of DigestLength = 15
 
--- What a call answers as its number: 0 where it was taken. answer_number (Some KeyLength) is 4.
-abbrev pub answer_number : Option Refusal → ℕ
-answer_number None = 0
-answer_number (Some r) = number_of r
+-- What a call answers as its number: 0 where it was taken. answer_number (Err KeyLength) is 4.
+abbrev pub answer_number : {T : Type 0} → Result T Refusal → ℕ
+answer_number (Ok given) = 0
+answer_number (Err r) = number_of r
 
 -- A question: the refusal where it is answered no, and whether it is answered yes.
 -- ask KeyLength false is asked of a key that has not 16 bytes.
@@ -37,3 +37,9 @@ abbrev pub first_no : List Question → Option Refusal
 first_no [] = None
 first_no (ask r true ∷ qs) = first_no qs
 first_no (ask r false ∷ qs) = Some r
+
+-- What a call that asks answers by the first no: Ok where there is none, else Err with the refusal.
+-- after_asking (Some KeyLength) is Err KeyLength.
+abbrev pub after_asking : Option Refusal → Result (Unit {0}) Refusal
+after_asking None = Ok tt
+after_asking (Some r) = Err r

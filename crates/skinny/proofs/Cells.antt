@@ -3,7 +3,7 @@ use Rattle.std.proofs.Common.{◌≡◌, ℕ, ◌<◌, List, [], ◌∷◌, map,
 use Rattle.std.specs.List.{range_with_len}
 use Rattle.std.proofs.lemmas.List.FromFn.{fill_by_all}
 use Rattle.skinny.specs.Skinny.{cell, block}
-use Rattle.skinny.proofs.Computed.{at_each}
+use Rattle.byte_blocks.proofs.Computed.{at_each}
 
 -- a list of 16 is the block of its cells
 pub by_cells : (t : List ℕ) → length t ≡ 16 → block (cell t) ≡ t

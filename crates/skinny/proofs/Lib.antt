@@ -1,4 +1,3 @@
 mod Cells
-mod Computed
 mod Updates
 pub mod Worked

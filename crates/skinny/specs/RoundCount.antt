@@ -1,5 +1,6 @@
 -- How many rounds each of the two ciphers has.
-use Rattle.std.specs.Prelude.{ℕ}
+use Rattle.std.specs.Prelude.{◌≡◌, ◌≢◌, ℕ, Result, Ok, Err}
+use Rattle.skinny.specs.declared.UnknownRounds.{UnknownRounds}
 use Rattle.skinny.specs.declared.Rounds.{Rounds}
 use Rattle.skinny.specs.declared.Rounds.TheVariants.{Forty, FiftySix}
 
@@ -7,3 +8,9 @@ use Rattle.skinny.specs.declared.Rounds.TheVariants.{Forty, FiftySix}
 abbrev pub round_count : Rounds → ℕ
 round_count Forty = 40
 round_count FiftySix = 56
+
+-- What a number of rounds names: the rounds that have it, or none, and then the number comes back.
+-- 40 names Forty, and 48 comes back.
+abbrev pub Named : ℕ → Result Rounds UnknownRounds → Type 0
+Named n (Ok r) = round_count r ≡ n
+Named n (Err e) = (e.0 ≡ n) × (n ≢ 40) × (n ≢ 56)

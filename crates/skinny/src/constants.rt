@@ -1,6 +1,9 @@
 //! The round constants.
-ghost use Rattle.std.specs.Prelude.{◌≡◌, suc, ◌<◌};
-ghost use Rattle.skinny.specs.Skinny.{rc};
+ghost use Rattle.std.specs.Prelude.{◌≡◌};
+ghost use Rattle.skinny.specs.RoundCount.{round_count};
+ghost use Rattle.skinny.specs.Schedule.{constants_in_fours};
+
+use crate::Rounds;
 
 /// The constants of rounds 0 to 55; 40 rounds use the first 40.
 const ROUND_CONSTANTS: [u8; 56] = [
@@ -10,10 +13,10 @@ const ROUND_CONSTANTS: [u8; 56] = [
     0x09, 0x13, 0x26, 0x0c, 0x19, 0x32, 0x25, 0x0a,
 ];
 
-/// The constant of round `i`.
-pub fn round_constant(i: usize) -> u8
-    requires { i < 56 }
-    ensures { result ≡ rc (suc i) }
+/// The constants of so many rounds, in fours.
+pub fn in_fours(rounds: Rounds) -> &'static [[u8; 4]]
+    ensures { result.now ≡ constants_in_fours (round_count rounds) }
 {
-    ROUND_CONSTANTS[i]
+    let (fours, _) = ROUND_CONSTANTS[..rounds.count()].as_chunks();
+    fours
 }

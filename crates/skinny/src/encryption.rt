@@ -1,28 +1,22 @@
 //! The cipher's one call.
-ghost use Rattle.std.specs.Prelude.{◌≡◌, ℕ, ◌+◌, ◌%◌, ◌^◌, ◌≤◌, List};
+ghost use Rattle.std.specs.Prelude.{◌≡◌, ℕ, ◌+◌, List};
 ghost use Rattle.skinny.specs.RoundCount.{round_count};
-ghost use Rattle.skinny.specs.Schedule.{four_tweakeys};
+ghost use Rattle.skinny.specs.Schedule.{four_constants, four_tweakeys};
 ghost use Rattle.skinny.specs.Skinny.{rounds as rounds_of, skinny as skinny_of};
 ghost use Rattle.skinny.specs.Sixteen.{answer_long};
-ghost use Rattle.std.proofs.Common.{rules};
 
-use crate::constants::round_constant;
+use crate::constants::in_fours;
 use crate::round::round;
 use crate::tweakey::Thirds;
 use crate::{Rounds, Skinny};
-use cipher::Cipher;
+use cipher::BlockCipher;
 
-impl Cipher for Skinny {
+impl BlockCipher for Skinny {
     ghost answer = { λ s. skinny_of (round_count s.rounds) };
 
-    ghost count = { λ s. s.calls % 2 ^ 64 };
+    ghost sixteen = { λ s. answer_long s.rounds };
 
-    ghost sixteen = { λ c. answer_long c.rounds };
-
-    ghost bounded = { Prim.search rules };
-
-    fn encrypt(&mut self, tweakey: &[u8; 48], block: &[u8; 16]) -> [u8; 16] {
-        self.calls = self.calls.wrapping_add(1);
+    fn encrypt_block(&self, tweakey: &[u8; 48], block: &[u8; 16]) -> [u8; 16] {
         answer(self.rounds, tweakey, block)
     }
 }
@@ -33,21 +27,20 @@ fn answer(rounds: Rounds, tweakey: &[u8; 48], block: &[u8; 16]) -> [u8; 16]
 {
     let mut thirds = Thirds::new(tweakey);
     let mut s = *block;
-    for i in 0..rounds.count() / 4 {
+    for constants in in_fours(rounds) {
         let (tweakeys, next) = thirds.next_four();
-        s = four_rounds(4 * i, &tweakeys, &s);
+        s = four_rounds(constants, &tweakeys, &s);
         thirds = next;
     }
     s
 }
 
-/// Four rounds, from round `n` on, with their round tweakeys.
-fn four_rounds(n: usize, tweakeys: &[[u8; 8]; 4], s: &[u8; 16]) -> [u8; 16]
-    requires { n + 4 ≤ 56 }
-    ensures { (T b : List ℕ) → tweakeys.now ≡ four_tweakeys T n → s.now ≡ rounds_of T b n → result ≡ rounds_of T b (n + 4) }
+/// Four rounds with their constants and their round tweakeys.
+fn four_rounds(constants: &[u8; 4], tweakeys: &[[u8; 8]; 4], s: &[u8; 16]) -> [u8; 16]
+    ensures { (T b : List ℕ) (n : ℕ) → constants.now ≡ four_constants n → tweakeys.now ≡ four_tweakeys T n → s.now ≡ rounds_of T b n → result ≡ rounds_of T b (n + 4) }
 {
-    let s1 = round(round_constant(n), &tweakeys[0], s);
-    let s2 = round(round_constant(n + 1), &tweakeys[1], &s1);
-    let s3 = round(round_constant(n + 2), &tweakeys[2], &s2);
-    round(round_constant(n + 3), &tweakeys[3], &s3)
+    let s1 = round(constants[0], &tweakeys[0], s);
+    let s2 = round(constants[1], &tweakeys[1], &s1);
+    let s3 = round(constants[2], &tweakeys[2], &s2);
+    round(constants[3], &tweakeys[3], &s3)
 }

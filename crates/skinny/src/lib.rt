@@ -8,7 +8,7 @@ mod sbox;
 mod tweakey;
 
 ghost use Rattle.std.specs.Prelude.{◌≡◌};
-ghost use Rattle.skinny.specs.RoundCount.{round_count};
+ghost use Rattle.skinny.specs.RoundCount.{round_count, Named};
 
 /// How many rounds: 40 in Skinny-128-384+, 56 in Skinny-128-384 as it was first published.
 #[derive(Clone, Copy)]
@@ -29,27 +29,36 @@ impl Rounds {
     }
 }
 
-/// Skinny-128-384 with a count of its calls.
-#[derive(Drop)]
+/// A number of rounds that neither cipher has.
+#[derive(Clone, Copy, Debug, PartialEq, Eq)]
+pub struct UnknownRounds(pub u32);
+
+impl TryFrom<u32> for Rounds {
+    type Error = UnknownRounds;
+
+    ghost try_from_gives = { Named };
+
+    fn try_from(count: u32) -> Result<Self, UnknownRounds> {
+        match count {
+            40 => Ok(Rounds::Forty),
+            56 => Ok(Rounds::FiftySix),
+            _ => Err(UnknownRounds(count)),
+        }
+    }
+}
+
+/// Skinny-128-384 with so many rounds.
+#[derive(Clone, Copy)]
 pub struct Skinny {
     rounds: Rounds,
-    calls: u64,
 }
 
 impl Skinny {
-    /// The cipher with so many rounds, never called.
+    /// The cipher with so many rounds.
     pub fn new(rounds: Rounds) -> Self
-        ensures kind { result.rounds ≡ rounds }
-        ensures fresh { result.calls ≡ 0 }
+        ensures { result.rounds ≡ rounds }
     {
-        Skinny { rounds, calls: 0 }
-    }
-
-    /// How often it was called, modulo 2^64.
-    pub fn calls(&self) -> u64
-        ensures { result ≡ self.now.calls }
-    {
-        self.calls
+        Skinny { rounds }
     }
 
     /// How many rounds it has.

@@ -8,6 +8,7 @@ use crate::sbox::s8;
 fn substituted(s: &[u8; 16]) -> [u8; 16]
     ensures { result ≡ sub_cells s.now }
 {
+    // a loop, since an array's `map` takes many times as long
     let mut cells = *s;
     for x in cells.iter_mut() {
         *x = s8(*x);
@@ -16,6 +17,7 @@ fn substituted(s: &[u8; 16]) -> [u8; 16]
 }
 
 /// AddConstants, AddRoundTweakey, ShiftRows and MixColumns in one pass over the cells.
+#[tactic(auto, unfolding(crate::specs::Skinny::add_constants, crate::specs::Skinny::add_round_tweakey, crate::specs::Skinny::shift_rows, crate::specs::Skinny::mix_columns))]
 fn diffused(c: u8, k: &[u8; 8], s: &[u8; 16]) -> [u8; 16]
     ensures { result ≡ mix_columns (shift_rows (add_round_tweakey k.now (add_constants c s.now))) }
 {
@@ -55,6 +57,7 @@ fn diffused(c: u8, k: &[u8; 8], s: &[u8; 16]) -> [u8; 16]
 }
 
 /// A round with its constant and its round tweakey.
+#[tactic(auto, unfolding(crate::specs::Skinny::round))]
 pub fn round(c: u8, k: &[u8; 8], s: &[u8; 16]) -> [u8; 16]
     ensures { result ≡ round_of c k.now s.now }
 {

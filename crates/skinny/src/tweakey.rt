@@ -70,6 +70,7 @@ impl Thirds {
     /// The round tweakeys of this round and the next three, and the thirds of the round after them.
     /// Cells are moved once for all four, which is what makes it quick: until then a round tweakey is read at the places
     /// that its cells come from.
+    #[tactic(auto, using(crate::proofs::Updates::four_picked))]
     pub fn next_four(self) -> ([[u8; 8]; 4], Self)
         ensures tweakeys { (T : List ℕ) (n : ℕ) → InRound T n self → result.0 ≡ four_tweakeys T n }
         ensures next { (T : List ℕ) (n : ℕ) → InRound T n self → InRound T (n + 4) result.1 }

@@ -1,9 +1,11 @@
-use Rattle.std.proofs.Common.{arith}
-use Rattle.byte_blocks.proofs.Leaves.{seen_more, seen_all}
+use Rattle.std.proofs.Common.{◌≡◌, rules, ◌∙◌, sym}
+use Rattle.std.proofs.lemmas.Iterator.{YieldsList-from_slice, YieldsList-from_zip}
+use Rattle.std.proofs.lemmas.Iterator.Consumers.{fold_from_yields_List}
+use Rattle.byte_blocks.proofs.Leaves.{differing, differ, decided}
 use Rattle.byte_blocks.proofs.equal.Goals as goal
 
-pub loop-i-preserved : goal.loop-i-preserved
-loop-i-preserved c = seen_more c.args.a.now c.args.b.now c.loop-i.i c.loop-i.differences (omega arith) (omega arith) c.loop-i.invariant
-
 pub returns : goal.returns
-returns c = seen_all c.args.a.now c.args.b.now c.loop-i.i c.loop-i.differences (omega arith) (omega arith) c.loop-i.invariant
+returns c =
+    let seen : c.fold.result ≡ differ 0 c.args.a.now c.args.b.now =
+    fold_from_yields_List _ differing 0 c.fold.result c.fold.ensures.ran (YieldsList-from_zip (YieldsList-from_slice c.args.a.now cc) (YieldsList-from_slice c.args.b.now cc)) (λ d p e q k. search rules) in
+    rw seen (decided c.args.a.now c.args.b.now (c.told-a ∙ sym c.told-b))

@@ -4,5 +4,5 @@ use Rattle.skinny.specs.Schedule.{InRound}
 use Rattle.skinny.specs.Skinny.{rounds}
 use Rattle.skinny.proofs.encryption.answer.Given as goal
 
-abbrev pub invariant-loop-i : goal.invariant-loop-i
-invariant-loop-i l = InRound l.tweakey (4 * l.i) l.thirds × (l.s ≡ rounds l.tweakey l.block (4 * l.i))
+abbrev pub invariant-loop-constants : goal.invariant-loop-constants
+invariant-loop-constants l = InRound l.tweakey (4 * l.constants-index) l.thirds × (l.s ≡ rounds l.tweakey l.block (4 * l.constants-index))
