@@ -1,5 +1,5 @@
 -- What the direct calls of a mode answer and write.
-use Rattle.std.specs.Prelude.{◌≡◌, ℕ, Bool, true, false, List, [], ◌∷◌, ◌++◌, length, Some, None, Option, ◌==◌, nat_le}
+use Rattle.std.specs.Prelude.{◌≡◌, ℕ, Bool, true, false, List, [], ◌∷◌, ◌++◌, length, Some, None, Ok, Err, Option, ◌==◌, nat_le}
 use Rattle.refusals.specs.declared.Refusal.{Refusal}
 use Rattle.refusals.specs.declared.Refusal.TheVariants.{KeyLength, DataLength, TextLength, OutputLength, TagLength, NonceLength, WrongFrame}
 use Rattle.refusals.specs.Refusals.{Question, ask}
@@ -26,32 +26,36 @@ key_question key = ask KeyLength (key == 16)
 abbrev pub size_questions : (key ad text out tag nonce : ℕ) → List Question
 size_questions key ad text out tag nonce = key_question key ∷ (frame_questions ad text out tag ++ (nonce_question nonce ∷ []))
 
--- A taken call that cost so much: taken 2 has no refusal and the cost 2.
-abbrev pub taken : ℕ → Outcome
-taken cost = record { refusal = None; cost = cost }
+-- Costs that do not depend on what is called: alike 2 has the costs 2, 2 and 2.
+abbrev pub alike : ℕ → Costs
+alike calls = record { seal = calls; right = calls; wrong = calls }
+
+-- A taken call, with what it gives and what it cost: taken tt 2 has the number 0 and the cost 2.
+abbrev pub taken : {T : Type 0} → T → ℕ → Outcome T
+taken given cost = record { answer = Ok given; cost = cost }
 
 -- A refused call, which cost nothing: refused KeyLength has the number 4 and the cost 0.
-abbrev pub refused : Refusal → Outcome
-refused r = record { refusal = Some r; cost = 0 }
+abbrev pub refused : {T : Type 0} → Refusal → Outcome T
+refused r = record { answer = Err r; cost = 0 }
 
 -- A wrong opening, the one refusal that costs: wrong 2 has the number 13 and the cost 2.
-abbrev pub wrong : ℕ → Outcome
-wrong cost = record { refusal = Some WrongFrame; cost = cost }
+abbrev pub wrong : ℕ → Outcome (Unit {0})
+wrong cost = record { answer = Err WrongFrame; cost = cost }
 
 -- A seal: refused at the first question answered no, with zeros in both places; else taken, with the mode's ciphertext and tag in them.
 -- With a place of 4 bytes for a message of 5 it is refused OutputLength, and 4 zeros and a tag place of zeros are left.
-abbrev pub SealAnswer : Scheme → Answer → (key nonce ad message out tag : List ℕ) → (first : Option Refusal) → Outcome → (out' tag' : List ℕ) → Type 0
-SealAnswer m f key nonce ad message out tag None r out' tag' = (r ≡ taken (m.costs (length ad) (length message)).seal) × SealsTo m f key nonce ad message out' tag'
+abbrev pub SealAnswer : Scheme → Answer → (key nonce ad message out tag : List ℕ) → (first : Option Refusal) → Outcome (Unit {0}) → (out' tag' : List ℕ) → Type 0
+SealAnswer m f key nonce ad message out tag None r out' tag' = (r ≡ taken tt (m.costs (length ad) (length message)).seal) × SealsTo m f key nonce ad message out' tag'
 SealAnswer m f key nonce ad message out tag (Some q) r out' tag' = (r ≡ refused q) × (out' ≡ zeros out) × (tag' ≡ zeros tag)
 
--- What an opening answers by its verdict. Of the costs 7, 7 and 5 a right frame gives taken 7, and a wrong one wrong 5.
-abbrev pub verdict_outcome : Costs → Bool → Outcome
-verdict_outcome costs true = taken costs.right
+-- What an opening answers by its verdict. Of the costs 7, 7 and 5 a right frame gives taken tt 7, and a wrong one wrong 5.
+abbrev pub verdict_outcome : Costs → Bool → Outcome (Unit {0})
+verdict_outcome costs true = taken tt costs.right
 verdict_outcome costs false = wrong costs.wrong
 
 -- An opening: refused at the first question answered no, with zeros in the place; else judged, and out' is what Opened says.
 -- With a tag of 15 bytes it is refused TagLength, whether the frame is right or not.
-abbrev pub OpenAnswer : Scheme → Answer → (key nonce ad text tag out : List ℕ) → (first : Option Refusal) → Outcome → (out' : List ℕ) → Type 0
+abbrev pub OpenAnswer : Scheme → Answer → (key nonce ad text tag out : List ℕ) → (first : Option Refusal) → Outcome (Unit {0}) → (out' : List ℕ) → Type 0
 OpenAnswer m f key nonce ad text tag out None r out' =
     (right : Bool) × (r ≡ verdict_outcome (m.costs (length ad) (length text)) right) × Opened m f key nonce ad text tag right out'
 OpenAnswer m f key nonce ad text tag out (Some q) r out' = (r ≡ refused q) × (out' ≡ zeros out)

@@ -2,12 +2,12 @@
 #![tactic(auto)]
 
 ghost use Rattle.std.specs.Prelude.{◌≡◌, length, if◌then◌else◌, Decides};
-ghost use Rattle.refusals.specs.Refusals.{first_no, answer_number};
+ghost use Rattle.refusals.specs.Refusals.{first_no, answer_number, after_asking};
 ghost use Rattle.cipher.specs.Cipher.{Called};
 ghost use Rattle.mode.specs.Mode.{Scheme, Keeps, SealsTo, Opened, zeros};
-ghost use Rattle.mode.specs.Calls.{frame_questions, size_questions, refused as refused_of, verdict_outcome, SealAnswer, OpenAnswer};
+ghost use Rattle.mode.specs.Calls.{frame_questions, size_questions, alike, taken as taken_of, refused as refused_of, wrong as wrong_of, SealAnswer, OpenAnswer};
 
-use byte_blocks::equal;
+use byte_blocks::{block_of, equal};
 use cipher::Cipher;
 use refusals::{Refusal, answer_number};
 
@@ -19,61 +19,81 @@ pub struct Costs {
     pub wrong: u64,
 }
 
-/// What a call of a mode answers: the question that refused it, if any, and what it cost.
+impl Costs {
+    /// The costs of a mode where seals, right openings and wrong openings cost the same.
+    pub fn alike(calls: u64) -> Self
+        ensures { result ≡ alike calls }
+    {
+        Costs {
+            seal: calls,
+            right: calls,
+            wrong: calls,
+        }
+    }
+}
+
+/// What a call answers: what it gives, or the question that refused it; and what it cost.
 #[derive(Clone, Copy)]
-pub struct Outcome {
-    pub refusal: Option<Refusal>,
+pub struct Outcome<T> {
+    pub answer: Result<T, Refusal>,
     pub cost: u64,
 }
 
-impl Outcome {
+impl<T> Outcome<T> {
+    /// A call that was taken.
+    pub fn taken(given: T, cost: u64) -> Self
+        ensures { result ≡ taken_of given cost }
+    {
+        Outcome {
+            answer: Ok(given),
+            cost,
+        }
+    }
+
+    /// A call that was refused before its work, so that it cost nothing.
+    pub fn refused(refusal: Refusal) -> Self
+        ensures { result ≡ refused_of refusal }
+    {
+        Outcome {
+            answer: Err(refusal),
+            cost: 0,
+        }
+    }
+
     /// The answer's number: 0 where the call was taken.
     pub fn number(&self) -> u8
-        ensures { result ≡ answer_number self.now.refusal }
+        ensures { result ≡ answer_number self.now.answer }
     {
-        answer_number(self.refusal)
+        answer_number(&self.answer)
     }
 }
 
-fn refused(refusal: Refusal) -> Outcome
-    ensures { result ≡ refused_of refusal }
-{
-    Outcome {
-        refusal: Some(refusal),
-        cost: 0,
-    }
-}
-
-fn judged(costs: Costs, right: bool) -> Outcome
-    ensures { result ≡ verdict_outcome costs right }
-{
-    if right {
+impl Outcome<()> {
+    /// An opening of a wrong frame: the one refusal that costs calls of the cipher.
+    pub fn wrong(calls: u64) -> Self
+        ensures { result ≡ wrong_of calls }
+    {
         Outcome {
-            refusal: None,
-            cost: costs.right,
-        }
-    } else {
-        Outcome {
-            refusal: Some(Refusal::WrongFrame),
-            cost: costs.wrong,
+            answer: Err(Refusal::WrongFrame),
+            cost: calls,
         }
     }
 }
 
 /// The first question on the sizes of a frame that is answered no.
-pub fn ask_frame(ad: usize, text: usize, out: usize, tag: usize) -> Option<Refusal>
-    ensures { result ≡ first_no (frame_questions ad text out tag) }
+pub fn ask_frame(ad: usize, text: usize, out: usize, tag: usize) -> Result<(), Refusal>
+    ensures { result ≡ after_asking (first_no (frame_questions ad text out tag)) }
 {
     if ad > 65535 {
-        Some(Refusal::DataLength)
+        Err(Refusal::DataLength)
     } else if text > 65535 {
-        Some(Refusal::TextLength)
+        Err(Refusal::TextLength)
     } else if out != text {
-        Some(Refusal::OutputLength)
+        Err(Refusal::OutputLength)
     } else if tag != 16 {
-        Some(Refusal::TagLength)
+        Err(Refusal::TagLength)
     } else {
-        None
+        Ok(())
     }
 }
 
@@ -85,25 +105,17 @@ pub fn ask_sizes(
     out: usize,
     tag: usize,
     nonce: usize,
-) -> Option<Refusal>
-    ensures { result ≡ first_no (size_questions key ad text out tag nonce) }
+) -> Result<(), Refusal>
+    ensures { result ≡ after_asking (first_no (size_questions key ad text out tag nonce)) }
 {
     if key != 16 {
-        return Some(Refusal::KeyLength);
+        return Err(Refusal::KeyLength);
     }
-    match ask_frame(ad, text, out, tag) {
-        None if nonce != 16 => Some(Refusal::NonceLength),
-        asked => asked,
+    ask_frame(ad, text, out, tag)?;
+    if nonce != 16 {
+        return Err(Refusal::NonceLength);
     }
-}
-
-fn sixteen(s: &[u8]) -> [u8; 16]
-    requires { length s.now ≡ 16 }
-    ensures { result ≡ s.now }
-{
-    let mut r = [0; 16];
-    r.copy_from_slice(s);
-    r
+    Ok(())
 }
 
 /// Writes zeros over a place.
@@ -117,12 +129,7 @@ pub fn clear(place: &mut [u8])
 pub fn is_clear(place: &[u8]) -> bool
     ensures { Decides result (place.now ≡ zeros place.now) }
 {
-    for byte in place {
-        if *byte != 0 {
-            return false;
-        }
-    }
-    true
+    place.iter().all(|byte| *byte == 0)
 }
 
 /// A mode of authenticated encryption over any cipher.
@@ -172,12 +179,12 @@ pub trait Mode {
         message: &[u8],
         out: &mut [u8],
         tag: &mut [u8],
-    ) -> Outcome
+    ) -> Outcome<()>
         ensures answered { SealAnswer scheme (C.answer cipher.old) key.now nonce.now ad.now message.now out.old tag.old (first_no (size_questions (length key.now) (length ad.now) (length message.now) (length out.old) (length tag.old) (length nonce.now))) result out.new tag.new }
         ensures called { Called (C.answer cipher.old) (C.count cipher.old) result.cost (C.answer cipher.new) (C.count cipher.new) }
         ensures kept { result.cost ≡ 0 → cipher.new ≡ cipher.old }
     {
-        if let Some(refusal) = ask_sizes(
+        if let Err(refusal) = ask_sizes(
             key.len(),
             ad.len(),
             message.len(),
@@ -187,16 +194,13 @@ pub trait Mode {
         ) {
             clear(out);
             clear(tag);
-            return refused(refusal);
+            return Outcome::refused(refusal);
         }
         let cost = self.costs(ad.len(), message.len()).seal;
         out.copy_from_slice(message);
-        let made = self.seal_in_place(cipher, &sixteen(key), &sixteen(nonce), ad, out);
+        let made = self.seal_in_place(cipher, &block_of(key), &block_of(nonce), ad, out);
         tag.copy_from_slice(&made);
-        Outcome {
-            refusal: None,
-            cost,
-        }
+        Outcome::taken((), cost)
     }
 
     /// Opens a frame into an output place, after all questions on the sizes.
@@ -209,12 +213,12 @@ pub trait Mode {
         text: &[u8],
         tag: &[u8],
         out: &mut [u8],
-    ) -> Outcome
+    ) -> Outcome<()>
         ensures answered { OpenAnswer scheme (C.answer cipher.old) key.now nonce.now ad.now text.now tag.now out.old (first_no (size_questions (length key.now) (length ad.now) (length text.now) (length out.old) (length tag.now) (length nonce.now))) result out.new }
         ensures called { Called (C.answer cipher.old) (C.count cipher.old) result.cost (C.answer cipher.new) (C.count cipher.new) }
         ensures kept { result.cost ≡ 0 → cipher.new ≡ cipher.old }
     {
-        if let Some(refusal) = ask_sizes(
+        if let Err(refusal) = ask_sizes(
             key.len(),
             ad.len(),
             text.len(),
@@ -223,19 +227,23 @@ pub trait Mode {
             nonce.len(),
         ) {
             clear(out);
-            return refused(refusal);
+            return Outcome::refused(refusal);
         }
         let costs = self.costs(ad.len(), text.len());
         out.copy_from_slice(text);
         let right = self.open_in_place(
             cipher,
-            &sixteen(key),
-            &sixteen(nonce),
+            &block_of(key),
+            &block_of(nonce),
             ad,
             out,
-            &sixteen(tag),
+            &block_of(tag),
         );
-        judged(costs, right)
+        if right {
+            Outcome::taken((), costs.right)
+        } else {
+            Outcome::wrong(costs.wrong)
+        }
     }
 
     // What every mode owes: lengths, one message for a frame, and costs of at least 1.

@@ -1,3 +1,4 @@
 pub mod Absorbing
 pub mod Walking
 pub mod Back
+pub mod Found

@@ -1,7 +1,8 @@
 -- The hash, a block at a time.
-use Rattle.std.proofs.Common.{◌≡◌, ℕ, zero, suc, ◌+◌, ◌-◌, ◌*◌, ◌/◌, ◌%◌, ◌^◌, ◌<◌, ◌≤◌, List, [], ◌∷◌, ◌++◌, length, take, drop, replicate, Some, None, sym, refl, ap, ◌∙◌, subst, append_assoc, zero-add, arith}
-use Rattle.std.proofs.lemmas.List.{take_all, length-append, length-take-le, length-replicate, take_at, drop_at, take-append-drop, length-drop, replicate-append-replicate}
-use Rattle.std.proofs.lemmas.Bool.{lt-ltb, le-ltb}
+use Rattle.std.proofs.Common.{◌≡◌, ℕ, zero, suc, ◌+◌, ◌-◌, ◌*◌, ◌/◌, ◌%◌, ◌^◌, ◌<◌, List, [], ◌∷◌, ◌++◌, length, get_or, take, drop, replicate, Some, None, sym, refl, ap, ◌∙◌, subst, append_assoc, zero-add, arith}
+use Rattle.std.proofs.lemmas.List.{take_all, length-append, length-replicate, take_at, drop_at, take-append-drop, length-drop, drop-drop, replicate-append-replicate}
+use Rattle.std.specs.Simd.{first_chunks}
+use Rattle.std.proofs.lemmas.Bool.{lt-ltb}
 use Rattle.byte_blocks.specs.Block.{parts, cut, ipad, ipad_star, padded, ended}
 use Rattle.cipher.specs.Cipher.{Answer, Called}
 use Rattle.cipher.proofs.Calls.{called_none, called_then, called_as}
@@ -66,7 +67,7 @@ pub absorbs_as : {f₀ f : Answer} {n₀ n : ℕ} {s₀ s : Hasher} {xs ys : Lis
 absorbs_as {f₀} {f} {n₀} {n} {s₀} {s} e a = subst (λ (w : List ℕ). Absorbs f₀ n₀ s₀ w f n s) e a
 
 -- the first half of a block waits
-pub absorbs_half : (f : Answer) (n : ℕ) (s s' : Hasher) (x : List ℕ) → n < 2 ^ 64 → s.half ≡ None → s'.half ≡ Some x → s'.left ≡ s.left → s'.right ≡ s.right → Absorbs f n s x f n s'
+pub absorbs_half : (f : Answer) (n : ℕ) (s s' : Hasher) (x : List ℕ) → n < 2 ^ 64 → s.half ≡ None → s'.half ≡ Some x → s'.chain.left ≡ s.chain.left → s'.chain.right ≡ s.chain.right → Absorbs f n s x f n s'
 absorbs_half f n s s' x h e e' el er = record {
   digest = λ ys. rw (e, e', el, er);
   made = 0;
@@ -76,50 +77,22 @@ absorbs_half f n s s' x h e e' el er = record {
 
 -- the second half makes a block whole
 pub absorbs_whole : {f f' : Answer} {n n' : ℕ} (s s' : Hasher) (h x : List ℕ) → s.half ≡ Some h → s'.half ≡ None →
-    s'.left ≡ left_of f s.left s.right (h ++ x) → s'.right ≡ right_of f s.left s.right (h ++ x) →
+    s'.chain.left ≡ left_of f s.chain.left s.chain.right (h ++ x) → s'.chain.right ≡ right_of f s.chain.left s.chain.right (h ++ x) →
     length (h ++ x) ≡ 32 → Called f n 2 f' n' → Absorbs f n s x f' n' s'
 absorbs_whole {f = f} s s' h x e e' el er l called = record {
-  digest = λ ys. rw (e, e', el, er) (sym (digest_more f s.left s.right (h ++ x) ys l) ∙ ap (digest_from f s.left s.right) (append_assoc h x ys));
+  digest = λ ys. rw (e, e', el, er) (sym (digest_more f s.chain.left s.chain.right (h ++ x) ys l) ∙ ap (digest_from f s.chain.left s.chain.right) (append_assoc h x ys));
   made = 2;
   called = called;
   all = λ j. rw (e, e') (omega (arith, length-append h x));
 }
 
--- ---- a text taken in block by block
--- what the loop keeps: the text is whole blocks that were taken in, then the rest
-pub record Taking (f₀ : Answer) (n₀ : ℕ) (s₀ : Hasher) (text : List ℕ) (f : Answer) (n : ℕ) (s : Hasher) (rest : List ℕ) : Type 0 where
-  pub taken : List ℕ
-  pub text_is : taken ++ rest ≡ text
-  pub whole : length taken % 16 ≡ 0
-  pub absorbed : Absorbs f₀ n₀ s₀ taken f n s
-
-pub taking_none : (f : Answer) (n : ℕ) (s : Hasher) (text : List ℕ) → n < 2 ^ 64 → Taking f n s text f n s text
-taking_none f n s text h = record { taken = []; text_is = refl; whole = refl; absorbed = absorbs_none f n s h }
-
-module _ {f₀ : Answer} {n₀ : ℕ} {s₀ : Hasher} {text : List ℕ} {f : Answer} {n : ℕ} {s : Hasher} {rest : List ℕ} (inv : Taking f₀ n₀ s₀ text f n s rest) where
-  pub taking_more : {f' : Answer} {n' : ℕ} {s' : Hasher} (x rest' : List ℕ) → 16 ≤ length rest → x ≡ padded rest → rest' ≡ drop 16 rest →
-      Absorbs f n s x f' n' s' → Taking f₀ n₀ s₀ text f' n' s' rest'
-  unfolding padded
-  taking_more x rest' h ex er a =
-      let e : x ≡ take 16 rest = ex ∙ rw (le-ltb (length rest) 16 h) in
-      let l : length x ≡ 16 = ap length e ∙ length-take-le 16 rest h in
-      record {
-        taken = inv.taken ++ x;
-        text_is = append_assoc inv.taken x rest' ∙ rw (e, er, take-append-drop 16 rest) inv.text_is;
-        whole = omega (arith, inv.whole, length-append inv.taken x);
-        absorbed = absorbs_both inv.absorbed a;
-      }
-
-  -- how much was taken in at the end
-  taking_length : length rest < 16 → length inv.taken ≡ length text / 16 * 16
-  taking_length h = omega (arith, inv.whole, length-append inv.taken rest, ap length inv.text_is)
-
-  pub taking_all : length rest < 16 → Absorbs f₀ n₀ s₀ (take (length text / 16 * 16) text) f n s × (rest ≡ drop (length text / 16 * 16) text)
-  taking_all h =
-      let l = taking_length h in (
-        absorbs_as (sym (take_at inv.taken rest (length text / 16 * 16) l) ∙ ap (take (length text / 16 * 16)) inv.text_is) inv.absorbed,
-        sym (drop_at inv.taken rest (length text / 16 * 16) l) ∙ ap (drop (length text / 16 * 16)) inv.text_is,
-      )
+-- ---- a text in chunks
+pub chunk_at : (n k i : ℕ) (xs d : List ℕ) → i < k → get_or (first_chunks n k xs) i d ≡ take n (drop (i * n) xs)
+chunk_at n zero i xs d h = absurd (omega arith)
+chunk_at n (suc k) zero xs d h = let e : 0 ≡ zero * n = omega arith in ap (λ (j : ℕ). take n (drop j xs)) e
+chunk_at n (suc k) (suc i) xs d h =
+    let e : n + i * n ≡ suc i * n = omega arith in
+    chunk_at n k i (drop n xs) d (omega arith) ∙ ap (take n) (drop-drop (i * n) n xs ∙ ap (λ (j : ℕ). drop j xs) e)
 
 -- ---- a text padded to whole blocks of 16 bytes
 -- the whole blocks, then the rest as a block
@@ -170,22 +143,22 @@ digest_end : (f : Answer) (l l₀ l' r r' q t : List ℕ) → length t < 32 → 
 digest_end f l l₀ l' r r' q t h e₀ eq el er = rw (el, er, eq, e₀) (sym (digest_last f l r t h))
 
 -- the end of a text, after a half that waits
-module _ (f : Answer) (s : Hasher) (l₀ l' r' t x : List ℕ) (e₀ : l₀ ≡ marked 2 s.left) (m : length t < 16) where
+module _ (f : Answer) (s : Hasher) (l₀ l' r' t x : List ℕ) (e₀ : l₀ ≡ marked 2 s.chain.left) (m : length t < 16) where
   pub ends_full : {f' : Answer} {n n' : ℕ} (h : List ℕ) → s.half ≡ Some h → x ≡ ended t (16 + length t) → length (h ++ x) ≡ 32 →
-      l' ≡ left_of f l₀ s.right (h ++ x) → r' ≡ right_of f l₀ s.right (h ++ x) → Called f n 2 f' n' →
+      l' ≡ left_of f l₀ s.chain.right (h ++ x) → r' ≡ right_of f l₀ s.chain.right (h ++ x) → Called f n 2 f' n' →
       (l' ++ r' ≡ digest_after f s t) × Called f n (calls_after s (length t)) f' n'
   ends_full h e ex w el er called =
       let q = last_full h t (rw ex at w) m in
       let l : length (h ++ t) < 32 = omega (arith, ap length q, rw ex at w, length-append h (ended t (16 + length t)), length-append h t, length-ipad (h ++ t)) in (
-        rw e (digest_end f s.left l₀ l' s.right r' (h ++ x) (h ++ t) l e₀ (rw ex q) el er),
+        rw e (digest_end f s.chain.left l₀ l' s.chain.right r' (h ++ x) (h ++ t) l e₀ (rw ex q) el er),
         rw e (called_as _ (omega (arith, length-append h t)) called),
       )
 
   pub ends_half : {f' : Answer} {n n' : ℕ} (y : List ℕ) → s.half ≡ None → x ≡ ended t 0 → y ≡ ended [] (length t) →
-      l' ≡ left_of f l₀ s.right (x ++ y) → r' ≡ right_of f l₀ s.right (x ++ y) → Called f n 2 f' n' →
+      l' ≡ left_of f l₀ s.chain.right (x ++ y) → r' ≡ right_of f l₀ s.chain.right (x ++ y) → Called f n 2 f' n' →
       (l' ++ r' ≡ digest_after f s t) × Called f n (calls_after s (length t)) f' n'
   ends_half y e ex ey el er called = (
-    rw e (digest_end f s.left l₀ l' s.right r' (x ++ y) t (omega arith) e₀ (rw (ex, ey) (last_half t m)) el er),
+    rw e (digest_end f s.chain.left l₀ l' s.chain.right r' (x ++ y) t (omega arith) e₀ (rw (ex, ey) (last_half t m)) el er),
     rw e (called_as _ (omega arith) called),
   )
 

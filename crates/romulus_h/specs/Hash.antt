@@ -1,5 +1,5 @@
 -- Romulus-H: a digest of 32 bytes from a cipher's answers.
-use Rattle.std.specs.Prelude.{ℕ, ◌+◌, ◌*◌, ◌/◌, List, [], ◌∷◌, ◌++◌, length, replicate, Some, None, Option, ◌==◌, bit_xor, nat_le}
+use Rattle.std.specs.Prelude.{ℕ, ◌+◌, ◌*◌, ◌/◌, List, [], ◌∷◌, ◌++◌, length, replicate, Ok, Err, Result, ◌==◌, bit_xor, nat_le}
 use Rattle.refusals.specs.declared.Refusal.{Refusal}
 use Rattle.refusals.specs.declared.Refusal.TheVariants.{HashLength, DigestLength}
 use Rattle.refusals.specs.Refusals.{Question, ask}
@@ -48,11 +48,11 @@ abbrev pub hash_questions : (input place : ℕ) → List Question
 hash_questions input place = ask HashLength (nat_le input 1048576) ∷ ask DigestLength (place == 32) ∷ []
 
 -- What the place holds after a hash: the digest of the input or, after a refusal, zeros: 31 of them in a place of 31 bytes.
-abbrev pub hash_place : Answer → (input place : List ℕ) → Option Refusal → List ℕ
-hash_place f input place None = digest_of f input
-hash_place f input place (Some r) = replicate (length place) 0
+abbrev pub hash_place : Answer → (input place : List ℕ) → Result (Unit {0}) Refusal → List ℕ
+hash_place f input place (Ok done) = digest_of f input
+hash_place f input place (Err r) = replicate (length place) 0
 
--- What a hash costs, in calls of the cipher: nothing where it is refused. hash_cost 32 None is 4.
-abbrev pub hash_cost : (input : ℕ) → Option Refusal → ℕ
-hash_cost input None = hash_calls input
-hash_cost input (Some r) = 0
+-- What a hash costs, in calls of the cipher: nothing where it is refused. hash_cost 32 (Ok tt) is 4.
+abbrev pub hash_cost : (input : ℕ) → Result (Unit {0}) Refusal → ℕ
+hash_cost input (Ok done) = hash_calls input
+hash_cost input (Err r) = 0

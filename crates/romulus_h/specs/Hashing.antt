@@ -7,7 +7,7 @@ use Rattle.romulus_h.specs.declared.Hasher.{Hasher}
 
 -- A hasher that has taken nothing in.
 abbrev pub fresh : Hasher
-fresh = record { left = zero_block; right = zero_block; half = None }
+fresh = record { chain = record { left = zero_block; right = zero_block }; half = None }
 
 -- The bytes that wait for the other half of their block, if there are any.
 -- waiting (Some x) is x.
@@ -21,7 +21,7 @@ pending s = waiting s.half
 
 -- The digest if this text follows and is the end. digest_after f fresh text is digest_of f text.
 abbrev pub digest_after : Answer → Hasher → List ℕ → List ℕ
-digest_after f s text = digest_from f s.left s.right (pending s ++ text)
+digest_after f s text = digest_from f s.chain.left s.chain.right (pending s ++ text)
 
 -- The calls still to be made if n bytes follow and are the end. calls_after fresh 32 is 4.
 abbrev pub calls_after : Hasher → ℕ → ℕ

@@ -1,15 +1,15 @@
 //! Romulus-H over any cipher: the hash of a text, and a hasher that takes a text in part by part.
 #![tactic(auto)]
 
-ghost use Rattle.std.specs.Prelude.{◌≡◌, ◌*◌, ◌/◌, ◌<◌, true, ◌++◌, length, take, drop, is_some};
-ghost use Rattle.refusals.specs.Refusals.{first_no};
+ghost use Rattle.std.specs.Prelude.{◌≡◌, ◌*◌, ◌/◌, ◌<◌, ◌++◌, length, take, drop, IfErr};
+ghost use Rattle.refusals.specs.Refusals.{first_no, after_asking};
 ghost use Rattle.byte_blocks.specs.Bytes.{xors};
 ghost use Rattle.byte_blocks.specs.Block.{ipad_star};
 ghost use Rattle.cipher.specs.Cipher.{Called};
 ghost use Rattle.romulus_h.specs.Hash.{marked, left_of, right_of, hash_questions, hash_place, hash_cost};
 ghost use Rattle.romulus_h.specs.Hashing.{fresh, digest_after, calls_after, Absorbs};
 
-use byte_blocks::{end_block, pad, thirds, xor_into};
+use byte_blocks::{block_of, end_block, pad, thirds, xor_into};
 use cipher::Cipher;
 use refusals::Refusal;
 
@@ -21,13 +21,25 @@ pub struct Digest {
 }
 
 impl Digest {
-    // Writes the digest over a place of 32 bytes.
-    fn write(&self, place: &mut [u8])
-        requires { length place.old ≡ 32 }
-        ensures { place.new ≡ self.now.left ++ self.now.right }
+    // Takes in one block of 32 bytes, given as its halves.
+    fn compress<C: Cipher>(&mut self, cipher: &mut C, first: &[u8; 16], second: &[u8; 16])
+        ensures left { self.new.left ≡ left_of (C.answer cipher.old) self.old.left self.old.right (first.now ++ second.now) }
+        ensures right { self.new.right ≡ right_of (C.answer cipher.old) self.old.left self.old.right (first.now ++ second.now) }
+        ensures whole { length (first.now ++ second.now) ≡ 32 }
+        ensures called { Called (C.answer cipher.old) (C.count cipher.old) 2 (C.answer cipher.new) (C.count cipher.new) }
     {
-        place[0..16].copy_from_slice(&self.left);
-        place[16..].copy_from_slice(&self.right);
+        let tweakey = thirds(&self.right, first, second);
+        let right = fed_forward(cipher, &tweakey, &mark(&self.left, 1));
+        self.left = fed_forward(cipher, &tweakey, &self.left);
+        self.right = right;
+    }
+
+    // The digest in one piece.
+    fn bytes(self) -> [u8; 32]
+        ensures { result ≡ self.left ++ self.right }
+    {
+        let Digest { left, right } = self;
+        block_of([left, right].as_flattened())
     }
 }
 
@@ -53,8 +65,7 @@ fn fed_forward<C: Cipher>(cipher: &mut C, tweakey: &[u8; 48], block: &[u8; 16]) 
 /// A hash under way: L and R, and half a block that waits for its other half.
 #[derive(Drop)]
 pub struct Hasher {
-    left: [u8; 16],
-    right: [u8; 16],
+    chain: Digest,
     half: Option<[u8; 16]>,
 }
 
@@ -64,33 +75,22 @@ impl Hasher {
         ensures { result ≡ fresh }
     {
         Hasher {
-            left: [0; 16],
-            right: [0; 16],
+            chain: Digest {
+                left: [0; 16],
+                right: [0; 16],
+            },
             half: None,
         }
-    }
-
-    // One block of 32 bytes, given as its halves.
-    fn compress<C: Cipher>(&mut self, cipher: &mut C, first: &[u8; 16], second: &[u8; 16])
-        ensures left { self.new.left ≡ left_of (C.answer cipher.old) self.old.left self.old.right (first.now ++ second.now) }
-        ensures right { self.new.right ≡ right_of (C.answer cipher.old) self.old.left self.old.right (first.now ++ second.now) }
-        ensures whole { length (first.now ++ second.now) ≡ 32 }
-        ensures half { self.new.half ≡ self.old.half }
-        ensures called { Called (C.answer cipher.old) (C.count cipher.old) 2 (C.answer cipher.new) (C.count cipher.new) }
-    {
-        let tweakey = thirds(&self.right, first, second);
-        let right = fed_forward(cipher, &tweakey, &mark(&self.left, 1));
-        self.left = fed_forward(cipher, &tweakey, &self.left);
-        self.right = right;
     }
 
     /// Takes in one block of 16 bytes.
     pub fn absorb_block<C: Cipher>(&mut self, cipher: &mut C, block: &[u8; 16])
         ensures { Absorbs (C.answer cipher.old) (C.count cipher.old) self.old block.now (C.answer cipher.new) (C.count cipher.new) self.new }
     {
+        // `take` would make every block slower.
         match self.half {
             Some(half) => {
-                self.compress(cipher, &half, block);
+                self.chain.compress(cipher, &half, block);
                 self.half = None;
             }
             None => self.half = Some(*block),
@@ -102,10 +102,9 @@ impl Hasher {
         ensures absorbed { Absorbs (C.answer cipher.old) (C.count cipher.old) self.old (take (length text.now / 16 * 16) text.now) (C.answer cipher.new) (C.count cipher.new) self.new }
         ensures rest { result.now ≡ drop (length text.now / 16 * 16) text.now }
     {
-        let mut rest = text;
-        while rest.len() >= 16 {
-            self.absorb_block(cipher, &pad(rest));
-            rest = &rest[16..];
+        let (blocks, rest) = text.as_chunks::<16>();
+        for block in blocks {
+            self.absorb_block(cipher, block);
         }
         rest
     }
@@ -120,58 +119,47 @@ impl Hasher {
         }
     }
 
-    // The last block, from less than half a block that is left of the text.
-    fn end<C: Cipher>(&mut self, cipher: &mut C, rest: &[u8])
-        requires { length rest.now < 16 }
-        ensures digest { self.new.left ++ self.new.right ≡ digest_after (C.answer cipher.old) self.old rest.now }
-        ensures called { Called (C.answer cipher.old) (C.count cipher.old) (calls_after self.old (length rest.now)) (C.answer cipher.new) (C.count cipher.new) }
-    {
-        self.left = mark(&self.left, 2);
-        let len = rest.len() as u8;
-        match self.half {
-            Some(half) => self.compress(cipher, &half, &end_block(rest, 16 + len)),
-            None => self.compress(cipher, &end_block(rest, 0), &end_block(&[], len)),
-        }
-    }
-
     /// The digest where this text is the end.
     pub fn finish<C: Cipher>(mut self, cipher: &mut C, text: &[u8]) -> Digest
         ensures digest { result.left ++ result.right ≡ digest_after (C.answer cipher.old) self text.now }
         ensures called { Called (C.answer cipher.old) (C.count cipher.old) (calls_after self (length text.now)) (C.answer cipher.new) (C.count cipher.new) }
     {
         let rest = self.absorb_blocks(cipher, text);
-        self.end(cipher, rest);
-        Digest {
-            left: self.left,
-            right: self.right,
+        let len = rest.len() as u8;
+        let mut chain = self.chain;
+        chain.left = mark(&chain.left, 2);
+        match self.half {
+            Some(half) => chain.compress(cipher, &half, &end_block(rest, 16 + len)),
+            None => chain.compress(cipher, &end_block(rest, 0), &end_block(&[], len)),
         }
+        chain
     }
 }
 
 // The first question before a hash that is answered no.
-fn ask(input: usize, place: usize) -> Option<Refusal>
-    ensures { result ≡ first_no (hash_questions input place) }
+fn ask(input: usize, place: usize) -> Result<(), Refusal>
+    ensures { result ≡ after_asking (first_no (hash_questions input place)) }
 {
     if input > 1_048_576 {
-        Some(Refusal::HashLength)
+        Err(Refusal::HashLength)
     } else if place != 32 {
-        Some(Refusal::DigestLength)
+        Err(Refusal::DigestLength)
     } else {
-        None
+        Ok(())
     }
 }
 
 /// Writes the digest of an input over a place of 32 bytes. A refusal leaves zeros there, and the cipher as it was.
-pub fn hash<C: Cipher>(cipher: &mut C, input: &[u8], place: &mut [u8]) -> Option<Refusal>
-    ensures answered { result ≡ first_no (hash_questions (length input.now) (length place.old)) }
+pub fn hash<C: Cipher>(cipher: &mut C, input: &[u8], place: &mut [u8]) -> Result<(), Refusal>
+    ensures answered { result ≡ after_asking (first_no (hash_questions (length input.now) (length place.old))) }
     ensures place { place.new ≡ hash_place (C.answer cipher.old) input.now place.old result }
     ensures called { Called (C.answer cipher.old) (C.count cipher.old) (hash_cost (length input.now) result) (C.answer cipher.new) (C.count cipher.new) }
-    ensures kept { is_some result ≡ true → cipher.new ≡ cipher.old }
+    ensures kept { IfErr result (λ _. cipher.new ≡ cipher.old) }
 {
-    if let Some(refusal) = ask(input.len(), place.len()) {
-        place.fill(0);
-        return Some(refusal);
+    let asked = ask(input.len(), place.len());
+    match asked {
+        Ok(()) => place.copy_from_slice(&Hasher::new().finish(cipher, input).bytes()),
+        Err(_) => place.fill(0),
     }
-    Hasher::new().finish(cipher, input).write(place);
-    None
+    asked
 }

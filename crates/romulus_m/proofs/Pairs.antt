@@ -1,6 +1,6 @@
 -- The pairs of data and message, text by text.
-use Rattle.std.proofs.Common.{◌≡◌, ℕ, zero, suc, ◌+◌, ◌-◌, ◌/◌, ◌%◌, ◌<◌, ◌≤◌, List, [], ◌∷◌, ◌++◌, map, length, take, drop, refl, ap, ◌∙◌, arith}
-use Rattle.std.proofs.lemmas.List.{length-map}
+use Rattle.std.proofs.Common.{◌≡◌, ℕ, zero, suc, ◌+◌, ◌-◌, ◌/◌, ◌%◌, ◌<◌, ◌≤◌, List, [], ◌∷◌, ◌++◌, map, length, sym, refl, ap, ◌∙◌, add-one, arith}
+use Rattle.std.proofs.lemmas.List.{length-map, length-append, append-nil, take_at, drop_at}
 use Rattle.std.proofs.lemmas.Bool.Decides.{nat_tests}
 use Rattle.byte_blocks.specs.Bytes.{xors}
 use Rattle.byte_blocks.specs.Counter.{stepped, advanced, counter}
@@ -20,6 +20,9 @@ advanced_more a zero n c e =
 advanced_more a (suc b) n c e =
     let h : n ≡ suc (b + a) = omega arith in
     rw h (advanced_more a b (b + a) (stepped c) refl)
+
+stepped_after : (n : ℕ) → stepped (counter n) ≡ advanced n 2
+stepped_after n = advanced_more 1 n (n + 1) 1 refl ∙ sym (advanced_more n 1 (n + 1) 1 (omega arith))
 
 -- ---- pairs
 module _ (f : Answer) (k : List ℕ) where
@@ -57,33 +60,30 @@ module _ (f : Answer) (k : List ℕ) where
 
   -- data of evenly many blocks, and of oddly many
   pub gathered_even : (ad m : List ℕ) → block_count (length ad) % 2 ≡ 0 →
-      gathered f k ad m ≡ absorbed f k 44 (stepped (advanced ((length ad - 1) / 16) 2)) (absorbed f k 40 2 zero_block (map padded (blocks ad))) (map padded (blocks m))
+      gathered f k ad m ≡ absorbed f k 44 (stepped (counter (block_count (length ad)))) (absorbed f k 40 2 zero_block (map padded (blocks ad))) (map padded (blocks m))
   unfolding gathered
   gathered_even ad m h =
-      let j : ℕ = (length ad - 1) / 16 in
-      let n : length (map padded (blocks ad)) ≡ j + 1 = count_of ad in
-      let t : stepped (advanced j 2) ≡ advanced (length (map padded (blocks ad))) 2 = advanced_more 1 j _ 2 n in
-      even (block_count (length ad) / 2) (map padded (blocks ad)) (map padded (blocks m)) 2 zero_block (n ∙ omega arith) ∙ rw t
+      let n : ℕ = block_count (length ad) in
+      let l : length (map padded (blocks ad)) ≡ n = count_of ad in
+      even (n / 2) (map padded (blocks ad)) (map padded (blocks m)) 2 zero_block (l ∙ omega arith) ∙ rw (l, stepped_after n)
 
   pub gathered_odd : (ad m : List ℕ) → block_count (length ad) % 2 ≡ 1 →
-      gathered f k ad m ≡ joined f k (advanced ((length ad - 1) / 16) 2) (absorbed f k 40 2 zero_block (map padded (blocks ad))) (map padded (blocks m))
+      gathered f k ad m ≡ joined f k (counter (block_count (length ad))) (absorbed f k 40 2 zero_block (map padded (blocks ad))) (map padded (blocks m))
   unfolding gathered
-  gathered_odd ad m h = data_odd (block_count (length ad) / 2) ((length ad - 1) / 16) (map padded (blocks ad)) (map padded (blocks m)) 2 zero_block (count_of ad) (omega arith)
+  gathered_odd ad m h =
+      let j : ℕ = (length ad - 1) / 16 in
+      data_odd (block_count (length ad) / 2) j (map padded (blocks ad)) (map padded (blocks m)) 2 zero_block (count_of ad) (omega arith) ∙ rw (add-one j)
 
-  -- the message after a block left over
-  pub joined_more : (c : ℕ) (s m : List ℕ) → 16 < length m →
-      joined f k c s (map padded (blocks m)) ≡ absorbed f k 44 (stepped (stepped c)) (enciphered f k (padded (take 16 m)) 44 c s) (map padded (blocks (drop 16 m)))
-  joined_more c s m h = rw (blocks_more m h)
+  -- the message after a block left over: its first block, and others or none
+  pub joined_more : (c : ℕ) (s x y m : List ℕ) → m ≡ x ++ y → length x ≡ 16 → 0 < length y →
+      joined f k c s (map padded (blocks m)) ≡ absorbed f k 44 (stepped (stepped c)) (enciphered f k (padded x) 44 c s) (map padded (blocks y))
+  joined_more c s x y m e l h =
+      let more : 16 < length (x ++ y) = omega (arith, length-append x y) in
+      rw (e, blocks_more (x ++ y) more, take_at x y 16 l, drop_at x y 16 l)
 
-  pub joined_last : (c : ℕ) (s m : List ℕ) → length m ≤ 16 → joined f k c s (map padded (blocks m)) ≡ enciphered f k (padded m) 44 c s
-  joined_last c s m h = rw (blocks_last m h)
-
--- ---- the last counter
-pub last_even : (i j n : ℕ) → n ≡ i + 1 + (j + 1) → advanced j (stepped (advanced i 2)) ≡ counter n
-last_even i j n e = ap (advanced j) (advanced_more 1 i (i + 1) 2 refl) ∙ advanced_more j (i + 1) (i + 1 + j) 2 refl ∙ advanced_more (i + 1 + j) 1 n 1 (omega arith)
-
-pub last_odd : (i j n : ℕ) → n ≡ i + 1 + j → advanced j (advanced i 2) ≡ counter n
-last_odd i j n e = advanced_more j i (i + j) 2 refl ∙ advanced_more (i + j) 1 n 1 (omega arith)
+  pub joined_last : (c : ℕ) (s x y m : List ℕ) → m ≡ x ++ y → length x ≤ 16 → length y ≡ 0 → joined f k c s (map padded (blocks m)) ≡ enciphered f k (padded x) 44 c s
+  joined_last c s x [] m e l h = rw (e, append-nil x, blocks_last x l)
+  joined_last c s x (b ∷ y) m e l h = absurd (omega arith)
 
 -- ---- the pass over a text
 pub text_calls_some : (l : ℕ) → 0 < l → text_calls l ≡ (l - 1) / 16 + 1
@@ -93,7 +93,7 @@ pub text_calls_none : (l : ℕ) → l ≤ 0 → text_calls l ≡ 0
 text_calls_none l h = grind (arith, nat_tests)
 
 -- an empty text stays as it is
-pub walked_empty : (f : Answer) (k n : List ℕ) (d : ℕ) (way : Direction) (c : ℕ) (s xs : List ℕ) → length xs ≤ 0 → xs ≡ walked f k n d way c s (blocks xs)
+pub walked_empty : (f : Answer) (k n : List ℕ) (d : ℕ) (way : Direction) (c : ℕ) (s xs : List ℕ) → length xs ≡ 0 → xs ≡ walked f k n d way c s (blocks xs)
 unfolding parts
 walked_empty f k n d way c s [] h = refl
 walked_empty f k n d way c s (x ∷ xs) h = absurd (omega arith)

@@ -1,19 +1,39 @@
 //! Romulus-M over any cipher: authenticated encryption that stands a repeated nonce.
 #![tactic(auto)]
 
-ghost use Rattle.std.specs.Prelude.{◌≡◌, ℕ, ◌+◌, ◌/◌, map, length};
+ghost use Rattle.std.specs.Prelude.{◌≡◌, ◌+◌, ◌/◌, map, length};
 ghost use Rattle.byte_blocks.specs.Counter.{counter, advanced};
-ghost use Rattle.byte_blocks.specs.Block.{padded, blocks, block_count, zero_block};
+ghost use Rattle.byte_blocks.specs.Block.{padded, blocks, block_count};
 ghost use Rattle.cipher.specs.Cipher.{Called};
 ghost use Rattle.passes.specs.Passes.{walked};
 ghost use Rattle.romulus_m.specs.ModeM.{if_even, tag_domain, gathered, seeded, tag_of, text_calls, m_scheme};
 ghost use Rattle.romulus_m.specs.Joined.{joined};
 ghost use Rattle.romulus_m.specs.Laws.{m_keeps};
 
-use byte_blocks::{block_count, g_block, if_short, pad, step};
-use cipher::{Cipher, encipher};
+use byte_blocks::{block_count, g_block, if_short};
+use cipher::Cipher;
 use mode::{Costs, Mode, settle};
-use passes::{Direction, absorb, walk};
+use passes::{Direction, State};
+
+// The domain byte of a pair of blocks that lies within the data.
+const DATA_DOMAIN: u8 = 40;
+
+// The domain byte of a pair with a block of the message in it.
+const MESSAGE_DOMAIN: u8 = 44;
+
+// The domain byte before a part of the text.
+const TEXT_DOMAIN: u8 = 36;
+
+// The domain byte of the tag, and its bits.
+const TAG_DOMAIN: u8 = 48;
+
+const SHORT_DATA: u8 = 2;
+
+const SHORT_MESSAGE: u8 = 1;
+
+const EVEN_DATA: u8 = 8;
+
+const EVEN_MESSAGE: u8 = 4;
 
 /// Romulus-M. Where a nonce comes twice, it shows only whether data and message are the same again.
 #[derive(Clone, Copy)]
@@ -30,43 +50,40 @@ fn even(len: usize, w: u8) -> u8
 fn domain(ad_len: usize, len: usize) -> u8
     ensures { result ≡ tag_domain ad_len len }
 {
-    48 ^ if_short(ad_len, 2, 0) ^ if_short(len, 1, 0) ^ even(ad_len, 8) ^ even(len, 4)
+    TAG_DOMAIN
+        ^ if_short(ad_len, SHORT_DATA, 0)
+        ^ if_short(len, SHORT_MESSAGE, 0)
+        ^ even(ad_len, EVEN_DATA)
+        ^ even(len, EVEN_MESSAGE)
 }
 
-// The message after a block of data that was left over, from the counter of that block on. Returns the counter of the last block.
-fn join<C: Cipher>(cipher: &mut C, key: &[u8; 16], c: u64, message: &[u8], s: &mut [u8; 16]) -> u64
-    ensures state { s.new ≡ joined (C.answer cipher.old) key.now c s.old (map padded (blocks message.now)) }
-    ensures last { result ≡ advanced (block_count (length message.now)) c }
+// The message after a block of data that was left over: its first block is the tweak of the call that the block of data began.
+fn join<C: Cipher>(state: &mut State, cipher: &mut C, key: &[u8; 16], message: &[u8])
+    ensures block { state.new.block ≡ joined (C.answer cipher.old) key.now state.old.counter state.old.block (map padded (blocks message.now)) }
+    ensures counter { state.new.counter ≡ advanced (block_count (length message.now)) state.old.counter }
     ensures called { Called (C.answer cipher.old) (C.count cipher.old) ((block_count (length message.now) + 1) / 2) (C.answer cipher.new) (C.count cipher.new) }
 {
-    if message.len() > 16 {
-        encipher(cipher, key, &pad(&message[0..16]), 44, c, s);
-        absorb(cipher, key, 44, step(step(c)), &message[16..], s)
-    } else {
-        encipher(cipher, key, &pad(message), 44, c, s);
-        step(c)
+    let (first, rest) = message.split_at(message.len().min(16));
+    state.tweak(cipher, key, MESSAGE_DOMAIN, first);
+    if !rest.is_empty() {
+        state.absorb(cipher, key, MESSAGE_DOMAIN, rest);
     }
 }
 
-// Data and message, from a state of zeros. Returns the counter of the last block.
-fn gather<C: Cipher>(
-    cipher: &mut C,
-    key: &[u8; 16],
-    ad: &[u8],
-    message: &[u8],
-    s: &mut [u8; 16],
-) -> u64
-    requires { s.old ≡ zero_block }
-    ensures state { s.new ≡ gathered (C.answer cipher.old) key.now ad.now message.now }
-    ensures last { result ≡ counter (block_count (length ad.now) + block_count (length message.now)) }
+// The state that data and message leave.
+fn gather<C: Cipher>(cipher: &mut C, key: &[u8; 16], ad: &[u8], message: &[u8]) -> State
+    ensures block { result.block ≡ gathered (C.answer cipher.old) key.now ad.now message.now }
+    ensures counter { result.counter ≡ counter (block_count (length ad.now) + block_count (length message.now)) }
     ensures called { Called (C.answer cipher.old) (C.count cipher.old) ((block_count (length ad.now) + block_count (length message.now)) / 2) (C.answer cipher.new) (C.count cipher.new) }
 {
-    let c = absorb(cipher, key, 40, 2, ad, s);
+    let mut state = State::new([0; 16]);
+    state.absorb(cipher, key, DATA_DOMAIN, ad);
     if block_count(ad.len()) % 2 == 0 {
-        absorb(cipher, key, 44, step(c), message, s)
+        state.absorb(cipher, key, MESSAGE_DOMAIN, message);
     } else {
-        join(cipher, key, c, message, s)
+        join(&mut state, cipher, key, message);
     }
+    state
 }
 
 // The tag of data and message.
@@ -80,17 +97,9 @@ fn authenticate<C: Cipher>(
     ensures tag { result ≡ tag_of (C.answer cipher.old) key.now nonce.now ad.now message.now }
     ensures called { Called (C.answer cipher.old) (C.count cipher.old) ((block_count (length ad.now) + block_count (length message.now)) / 2 + 1) (C.answer cipher.new) (C.count cipher.new) }
 {
-    let mut s = [0; 16];
-    let c = gather(cipher, key, ad, message, &mut s);
-    encipher(
-        cipher,
-        key,
-        nonce,
-        domain(ad.len(), message.len()),
-        c,
-        &mut s,
-    );
-    g_block(&s)
+    let mut state = gather(cipher, key, ad, message);
+    state.encipher(cipher, key, nonce, domain(ad.len(), message.len()));
+    g_block(&state.block)
 }
 
 // The text under a tag, in its own place.
@@ -105,10 +114,10 @@ fn pass<C: Cipher>(
     ensures text { text.new ≡ walked (C.answer cipher.old) key.now nonce.now 36 way (counter 1) (seeded (C.answer cipher.old) key.now nonce.now tag.now) (blocks text.old) }
     ensures called { Called (C.answer cipher.old) (C.count cipher.old) (text_calls (length text.old)) (C.answer cipher.new) (C.count cipher.new) }
 {
-    if text.len() > 0 {
-        let mut s = *tag;
-        encipher(cipher, key, nonce, 36, 1, &mut s);
-        walk(cipher, key, nonce, 36, way, &mut s, text);
+    if !text.is_empty() {
+        let mut state = State::new(*tag);
+        state.encipher(cipher, key, nonce, TEXT_DOMAIN);
+        state.walk(cipher, key, nonce, TEXT_DOMAIN, way, text);
     }
 }
 
@@ -121,11 +130,7 @@ impl Mode for RomulusM {
         let text = block_count(len);
         let text_calls = if len == 0 { 0 } else { text };
         let calls = ((block_count(ad_len) + text) / 2 + 1 + text_calls) as u64;
-        Costs {
-            seal: calls,
-            right: calls,
-            wrong: calls,
-        }
+        Costs::alike(calls)
     }
 
     fn seal_in_place<C: Cipher>(

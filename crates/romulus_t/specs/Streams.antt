@@ -57,15 +57,19 @@ pub record Covering (f₀ : Answer) (n₀ : ℕ) (nonce s₀ xs₀ : List ℕ) (
   pub text : take i xs ++ xors (drop i xs) (stream f₀ nonce (message_blocks (length (drop i xs))) c s) ≡ xors xs₀ (stream f₀ nonce (message_blocks (length xs₀)) (counter 0) s₀)
   pub called : Called f₀ n₀ (2 * (i / 16)) f n
 
-pub covering_none : (f : Answer) (n : ℕ) (nonce s xs : List ℕ) → n < 2 ^ 64 → 0 < length xs → Covering f n nonce s xs f n 1 s xs 0
-covering_none f n nonce s xs h some = record { within = some; whole = refl; long = refl; text = refl; called = called_none f n h }
+pub covering_none : (f : Answer) (n c : ℕ) (nonce s xs : List ℕ) → n < 2 ^ 64 → 0 < length xs → c ≡ counter 0 → Covering f n nonce s xs f n c s xs 0
+covering_none f n c nonce s xs h some e = record { within = some; whole = refl; long = refl; text = rw e; called = called_none f n h }
 
 module _ {f₀ : Answer} {n₀ : ℕ} {nonce s₀ xs₀ : List ℕ} {f : Answer} {n c : ℕ} {s xs : List ℕ} {i : ℕ} (h : Sixteen f₀) (inv : Covering f₀ n₀ nonce s₀ xs₀ f n c s xs i) where
-  pub covering_more : {f₁ f₂ : Answer} {n₁ n₂ : ℕ} (c' : ℕ) (s' p x : List ℕ) (d : ℕ) → 16 < length xs - i → c' ≡ stepped c →
-      p ≡ take 16 (drop i xs) → d ≡ 16 → x ≡ xors p (enciphered f s zero_block 64 c nonce) → Called f n 1 f₁ n₁ →
-      s' ≡ enciphered f₁ s zero_block 65 c nonce → Called f₁ n₁ 1 f₂ n₂ → Covering f₀ n₀ nonce s₀ xs₀ f₂ n₂ c' s' (put_mid i d xs x) (i + 16)
-  covering_more c' s' p x d big ec ep ed ex one es two =
+  pub covering_more : {f₁ f₂ : Answer} {n₁ n₂ : ℕ} (c' : ℕ) (s' p x : List ℕ) → i < (length xs - 1) / 16 * 16 → c' ≡ stepped c →
+      p ≡ take (i + 16 - i) (drop i xs) → x ≡ xors p (enciphered f s zero_block 64 c nonce) → Called f n 1 f₁ n₁ →
+      s' ≡ enciphered f₁ s zero_block 65 c nonce → Called f₁ n₁ 1 f₂ n₂ → Covering f₀ n₀ nonce s₀ xs₀ f₂ n₂ c' s' (put_mid i (i + 16 - i) xs x) (i + 16)
+  covering_more c' s' p x more ec ew ex one es two =
+      let d : ℕ = i + 16 - i in
+      let sixteen : d ≡ 16 = omega arith in
+      let ep : p ≡ take 16 (drop i xs) = ew ∙ ap (λ (j : ℕ). take j (drop i xs)) sixteen in
       let ld : length (drop i xs) ≡ length xs - i = length-drop i xs in
+      let big : 16 < length xs - i = omega (arith, inv.whole) in
       let bigger : 16 < length (drop i xs) = omega arith in
       let lx : length x ≡ 16 = ap length ex ∙ length-xors p _ ∙ ap length ep ∙ length-take-le 16 (drop i xs) (omega arith) in
       let front : take (i + 16) (put_mid i d xs x) ≡ take i xs ++ x = take-put_mid i d xs x (i + 16) (omega arith) (omega (arith, inv.within)) in
@@ -82,15 +86,16 @@ module _ {f₀ : Answer} {n₀ : ℕ} {nonce s₀ xs₀ : List ℕ} {f : Answer}
         called = called_as _ (omega (arith, inv.whole)) (called_then inv.called (called_then one two));
       }
 
-  pub covering_last : {f' : Answer} {n' : ℕ} (p x : List ℕ) → length xs - i ≤ 16 → p ≡ drop i xs → x ≡ xors p (enciphered f s zero_block 64 c nonce) → Called f n 1 f' n' →
-      (put_mid i (length xs - i) xs x ≡ xors xs₀ (stream f₀ nonce (message_blocks (length xs₀)) (counter 0) s₀))
+  pub covering_last : {f' : Answer} {n' : ℕ} (p x : List ℕ) (l : ℕ) → l ≡ (length xs - 1) / 16 * 16 → l ≤ i → p ≡ drop l xs → x ≡ xors p (enciphered f s zero_block 64 c nonce) → Called f n 1 f' n' →
+      (put_mid l (length xs - l) xs x ≡ xors xs₀ (stream f₀ nonce (message_blocks (length xs₀)) (counter 0) s₀))
       × Called f₀ n₀ (2 * message_blocks (length xs₀) - 1) f' n'
-  covering_last p x small ep ex one =
+  covering_last p x l el at ep ex one =
+      let e : l ≡ i = omega (arith, inv.within, inv.whole) in
       let ld : length (drop i xs) ≡ length xs - i = length-drop i xs in
       let some : 0 < length (drop i xs) = omega (arith, inv.within) in
       let short : length (drop i xs) ≤ 16 = omega arith in
-      let l : length (drop i xs) ≤ length xs - i = omega arith in (
-        rw (drop_all (length xs - i) (drop i xs) l, append-nil x, ex, ep, inv.called.same)
+      let le : length (drop i xs) ≤ length xs - i = omega arith in (
+        rw (e, drop_all (length xs - i) (drop i xs) le, append-nil x, ex, ep, e, inv.called.same)
             (ap (λ (y : List ℕ). take i xs ++ y) (sym (covered_last f₀ h nonce c s (drop i xs) some short)) ∙ inv.text),
         called_as _ (omega (arith, inv.whole, inv.within, inv.long)) (called_then inv.called one),
       )

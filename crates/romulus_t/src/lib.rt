@@ -1,9 +1,9 @@
 //! Romulus-T over any cipher: authenticated encryption that re-keys from block to block, with a hash for the tag.
 #![tactic(auto)]
 
-ghost use Rattle.std.specs.Prelude.{◌≡◌, ◌*◌, ◌++◌, length, Decides};
+ghost use Rattle.std.specs.Prelude.{◌≡◌, ◌*◌, ◌++◌, length};
 ghost use Rattle.byte_blocks.specs.Bytes.{xors};
-ghost use Rattle.byte_blocks.specs.Counter.{counter};
+ghost use Rattle.byte_blocks.specs.Counter.{stepped, counter};
 ghost use Rattle.byte_blocks.specs.Block.{zero_block};
 ghost use Rattle.cipher.specs.Cipher.{Called, enciphered};
 ghost use Rattle.romulus_h.specs.Hash.{digest_of, hash_calls};
@@ -37,40 +37,63 @@ const NO_COUNTER: u64 = 0;
 #[derive(Clone, Copy)]
 pub struct RomulusT;
 
-// The first block key.
-fn first_key<C: Cipher>(cipher: &mut C, key: &[u8; 16], nonce: &[u8; 16]) -> [u8; 16]
-    ensures key { result ≡ enciphered (C.answer cipher.old) key.now zero_block 66 0 nonce.now }
-    ensures called { Called (C.answer cipher.old) (C.count cipher.old) 1 (C.answer cipher.new) (C.count cipher.new) }
-{
-    let mut first = *nonce;
-    encipher(cipher, key, &[0; 16], FIRST_DOMAIN, NO_COUNTER, &mut first);
-    first
+// The key stream from one block on: that block's key, and its counter.
+#[derive(Drop)]
+struct Stream {
+    block_key: [u8; 16],
+    counter: u64,
 }
 
-// The next block key.
-fn next_key<C: Cipher>(cipher: &mut C, block_key: &mut [u8; 16], nonce: &[u8; 16], c: u64)
-    ensures key { block_key.new ≡ enciphered (C.answer cipher.old) block_key.old zero_block 65 c nonce.now }
-    ensures called { Called (C.answer cipher.old) (C.count cipher.old) 1 (C.answer cipher.new) (C.count cipher.new) }
-{
-    let mut next = *nonce;
-    encipher(cipher, block_key, &[0; 16], NEXT_DOMAIN, c, &mut next);
-    *block_key = next;
-}
+impl Stream {
+    // The stream from its first block on.
+    fn start<C: Cipher>(cipher: &mut C, key: &[u8; 16], nonce: &[u8; 16]) -> Self
+        ensures key { result.block_key ≡ enciphered (C.answer cipher.old) key.now zero_block 66 0 nonce.now }
+        ensures counter { result.counter ≡ counter 0 }
+        ensures called { Called (C.answer cipher.old) (C.count cipher.old) 1 (C.answer cipher.new) (C.count cipher.new) }
+    {
+        let mut first = *nonce;
+        encipher(cipher, key, &[0; 16], FIRST_DOMAIN, NO_COUNTER, &mut first);
+        Stream {
+            block_key: first,
+            counter: FIRST_COUNTER,
+        }
+    }
 
-// One part of a text, of at most 16 bytes, ⊕ the key stream's block.
-fn cover_part<C: Cipher>(
-    cipher: &mut C,
-    block_key: &[u8; 16],
-    nonce: &[u8; 16],
-    c: u64,
-    part: &mut [u8],
-)
-    ensures part { part.new ≡ xors part.old (enciphered (C.answer cipher.old) block_key.now zero_block 64 c nonce.now) }
-    ensures called { Called (C.answer cipher.old) (C.count cipher.old) 1 (C.answer cipher.new) (C.count cipher.new) }
-{
-    let mut mask = *nonce;
-    encipher(cipher, block_key, &[0; 16], STREAM_DOMAIN, c, &mut mask);
-    xor_into(part, &mask);
+    // One part of a text, of at most 16 bytes, ⊕ the stream's block.
+    fn cover<C: Cipher>(&self, cipher: &mut C, nonce: &[u8; 16], part: &mut [u8])
+        ensures part { part.new ≡ xors part.old (enciphered (C.answer cipher.old) self.now.block_key zero_block 64 self.now.counter nonce.now) }
+        ensures called { Called (C.answer cipher.old) (C.count cipher.old) 1 (C.answer cipher.new) (C.count cipher.new) }
+    {
+        let mut mask = *nonce;
+        encipher(
+            cipher,
+            &self.block_key,
+            &[0; 16],
+            STREAM_DOMAIN,
+            self.counter,
+            &mut mask,
+        );
+        xor_into(part, &mask);
+    }
+
+    // On to the next block.
+    fn advance<C: Cipher>(&mut self, cipher: &mut C, nonce: &[u8; 16])
+        ensures key { self.new.block_key ≡ enciphered (C.answer cipher.old) self.old.block_key zero_block 65 self.old.counter nonce.now }
+        ensures counter { self.new.counter ≡ stepped self.old.counter }
+        ensures called { Called (C.answer cipher.old) (C.count cipher.old) 1 (C.answer cipher.new) (C.count cipher.new) }
+    {
+        let mut next = *nonce;
+        encipher(
+            cipher,
+            &self.block_key,
+            &[0; 16],
+            NEXT_DOMAIN,
+            self.counter,
+            &mut next,
+        );
+        self.block_key = next;
+        self.counter = step(self.counter);
+    }
 }
 
 // A text ⊕ the key stream: the ciphertext of a message, and back the message of a ciphertext.
@@ -82,16 +105,14 @@ fn cover<C: Cipher>(cipher: &mut C, key: &[u8; 16], nonce: &[u8; 16], text: &mut
     if text.is_empty() {
         return;
     }
-    let mut block_key = first_key(cipher, key, nonce);
-    let mut c = FIRST_COUNTER;
-    let mut i = 0;
-    while text.len() - i > 16 {
-        cover_part(cipher, &block_key, nonce, c, &mut text[i..i + 16]);
-        next_key(cipher, &mut block_key, nonce, c);
-        c = step(c);
-        i += 16;
+    let mut stream = Stream::start(cipher, key, nonce);
+    // The parts by their places, since a proof knows nothing of the bytes that `chunks_mut` lent.
+    let last = (text.len() - 1) / 16 * 16;
+    for i in (0..last).step_by(16) {
+        stream.cover(cipher, nonce, &mut text[i..i + 16]);
+        stream.advance(cipher, nonce);
     }
-    cover_part(cipher, &block_key, nonce, c, &mut text[i..]);
+    stream.cover(cipher, nonce, &mut text[last..]);
 }
 
 // The counter's value at m.
@@ -117,16 +138,6 @@ fn tag_digest<C: Cipher>(cipher: &mut C, nonce: &[u8; 16], ad: &[u8], text: &[u8
     hasher.finish(cipher, &counter_bytes(counter_at(text.len().div_ceil(16))))
 }
 
-// The tag from a digest.
-fn tag_from<C: Cipher>(cipher: &mut C, key: &[u8; 16], digest: &Digest) -> [u8; 16]
-    ensures tag { result ≡ enciphered (C.answer cipher.old) key.now digest.now.right 68 0 digest.now.left }
-    ensures called { Called (C.answer cipher.old) (C.count cipher.old) 1 (C.answer cipher.new) (C.count cipher.new) }
-{
-    let mut tag = digest.left;
-    encipher(cipher, key, &digest.right, TAG_DOMAIN, NO_COUNTER, &mut tag);
-    tag
-}
-
 // The tag of a ciphertext.
 fn make_tag<C: Cipher>(
     cipher: &mut C,
@@ -138,23 +149,10 @@ fn make_tag<C: Cipher>(
     ensures tag { result ≡ tag_of (C.answer cipher.old) key.now nonce.now ad.now text.now }
     ensures called { Called (C.answer cipher.old) (C.count cipher.old) (tag_cost (length ad.now) (length text.now)) (C.answer cipher.new) (C.count cipher.new) }
 {
-    let digest = tag_digest(cipher, nonce, ad, text);
-    tag_from(cipher, key, &digest)
-}
-
-// Whether a tag is that of a ciphertext.
-fn judge<C: Cipher>(
-    cipher: &mut C,
-    key: &[u8; 16],
-    nonce: &[u8; 16],
-    ad: &[u8],
-    text: &[u8],
-    tag: &[u8; 16],
-) -> bool
-    ensures verdict { Decides result (tag_of (C.answer cipher.old) key.now nonce.now ad.now text.now ≡ tag.now) }
-    ensures called { Called (C.answer cipher.old) (C.count cipher.old) (tag_cost (length ad.now) (length text.now)) (C.answer cipher.new) (C.count cipher.new) }
-{
-    equal(&make_tag(cipher, key, nonce, ad, text), tag)
+    let Digest { left, right } = tag_digest(cipher, nonce, ad, text);
+    let mut tag = left;
+    encipher(cipher, key, &right, TAG_DOMAIN, NO_COUNTER, &mut tag);
+    tag
 }
 
 // How many blocks a text has once it is padded; an empty one has none.
@@ -205,7 +203,7 @@ impl Mode for RomulusT {
         text: &mut [u8],
         tag: &[u8; 16],
     ) -> bool {
-        let right = judge(cipher, key, nonce, ad, text, tag);
+        let right = equal(&make_tag(cipher, key, nonce, ad, text), tag);
         if right {
             cover(cipher, key, nonce, text);
         } else {

@@ -1,23 +1,16 @@
-use Rattle.std.proofs.Common.{◌≡◌, ◌+◌, ◌-◌, ◌/◌, length, sym, arith}
-use Rattle.cipher.proofs.Calls.{called_none, called_then, called_as}
-use Rattle.romulus_m.specs.ModeM.{seeded, text_calls}
-use Rattle.romulus_m.proofs.Pairs.{text_calls_some, text_calls_none, walked_empty}
+use Rattle.std.proofs.Common.{◌≡◌, length, rules}
+use Rattle.romulus_m.specs.ModeM.{seeded}
+use Rattle.romulus_m.proofs.Pairs.{walked_empty}
 use Rattle.romulus_m.proofs.pass.Goals as goal
 
-pub returns-then-text-gt0 : goal.returns-then-text-gt0
+pub returns-then-not-is_empty-clause-text : goal.returns-then-not-is_empty-clause-text
 unfolding seeded
-returns-then-text-gt0 g c =
+returns-then-not-is_empty-clause-text g c =
+    let s = c.new-state.ensures in
     let e = c.encipher.ensures in
-    let w = c.walk.ensures in
-    let p : 1 + (length c.args.text.now - 1) / 16 ≡ text_calls (length c.args.text.now) = omega (arith, text_calls_some (length c.args.text.now) c.if-text-gt0.true) in
-    record {
-      text = rw (e.state, e.called.same) at w.text;
-      called = called_as _ p (called_then e.called w.called);
-    }
+    rw (e.block, e.called.same, s.counter, s.block) at c.walk.ensures.text
 
-pub returns-else-text-gt0 : goal.returns-else-text-gt0
-returns-else-text-gt0 g c =
-    record {
-      text = walked_empty _ _ _ _ _ _ _ c.args.text.now c.if-text-gt0.false;
-      called = called_as _ (sym (text_calls_none (length c.args.text.now) c.if-text-gt0.false)) (called_none _ _ (g.met.C.Cipher.bounded c.args.cipher.now));
-    }
+pub returns-else-not-is_empty-clause-text : goal.returns-else-not-is_empty-clause-text
+returns-else-not-is_empty-clause-text g c =
+    let none : length c.args.text.now ≡ 0 = search rules in
+    walked_empty _ _ _ _ _ _ _ c.args.text.now none

@@ -1,14 +1,17 @@
-use Rattle.std.proofs.lemmas.List.{take_rest}
-use Rattle.romulus_h.proofs.Hashes.{taking_none, taking_more, taking_all}
+use Rattle.std.proofs.Common.{◌≡◌, ℕ, ◌+◌, ◌*◌, ◌/◌, ◌<◌, List, ◌++◌, length, get_or, take, sym, ap, ◌∙◌, arith}
+use Rattle.std.proofs.Math.Seq.{take-add}
+use Rattle.std.specs.Simd.{first_chunks}
+use Rattle.romulus_h.proofs.Hashes.{absorbs_both, absorbs_as, chunk_at}
 use Rattle.romulus_h.proofs.Hasher.absorb_blocks.Goals as goal
 
-pub loop-rest-init : goal.loop-rest-init
-loop-rest-init g c = taking_none _ _ _ _ (g.met.C.Cipher.bounded _)
+-- one block more
+front_more : (xs d : List ℕ) (bs : List (List ℕ)) (i k : ℕ) → bs ≡ first_chunks 16 k xs → i < k → take (i * 16) xs ++ get_or bs i d ≡ take ((i + 1) * 16) xs
+front_more xs d bs i k e h =
+    let s : i * 16 + 16 ≡ (i + 1) * 16 = omega arith in
+    rw (e, chunk_at 16 k i xs d h) (sym (take-add (i * 16) 16 xs) ∙ ap (λ (j : ℕ). take j xs) s)
 
-pub loop-rest-preserved : goal.loop-rest-preserved
-loop-rest-preserved g c = taking_more c.loop-rest.invariant _ _ c.loop-rest-test.true c.pad.ensures (take_rest c.loop-rest.rest.now 16) c.absorb_block.ensures
-
-pub returns : goal.returns
-returns g c =
-    let t = taking_all c.loop-rest.invariant c.loop-rest-test.false in
-    record { absorbed = t.0; rest = t.1 }
+pub loop-block-preserved : goal.loop-block-preserved
+loop-block-preserved g c =
+    let a = c.as_chunks.ensures in
+    absorbs_as (front_more c.args.text.now _ _ c.loop-block.block-index (length c.args.text.now / 16) a.front (omega (arith, a.front_len, c.loop-block-test.true)))
+    (absorbs_both c.loop-block.invariant c.absorb_block.ensures)
