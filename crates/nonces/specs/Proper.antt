@@ -1,25 +1,14 @@
 -- That the nonces of a counting source and of a sheet are what a source owes.
 -- These are proofs, checked like any other and nothing to believe; they stand here since the sources hand them over as ghost members.
-use Rattle.std.specs.Prelude.{◌≡◌, ℕ, zero, suc, ◌+◌, ◌%◌, ◌^◌, ◌<◌, false, ◌≢◌, List, [], ◌∷◌, ◌++◌, length, slice_index, slice_index_or, refl}
-use Rattle.std.proofs.Common.{sym, ap, ◌∙◌, not-suc-le-zero, add-zero, arith}
+use Rattle.std.specs.Prelude.{◌≡◌, ℕ, zero, suc, ◌+◌, ◌%◌, ◌^◌, ◌<◌, List, [], ◌∷◌, ◌++◌, length, map, slice_index, refl}
+use Rattle.std.proofs.Common.{sym, ap, ◌∙◌, arith}
 use Rattle.std.specs.List.{AllByRecursion}
 use Rattle.std.specs.Int.Digits.{number_from_digits}
-use Rattle.std.proofs.ByRecursion.{All-append, All-get_or, All-from_get_or}
+use Rattle.std.proofs.ByRecursion.{All-append, All-from_get_or}
+use Rattle.std.proofs.lemmas.List.FromFn.{length-map-range_with_len, get_or-map-range_with_len}
 use Rattle.std.proofs.lemmas.List.{append_cancel_left, length-append}
-use Rattle.std.specs.Str.{bytes_eq}
-use Rattle.std.proofs.lemmas.Slice.Eq.{bytes_eq-Decides}
-use Rattle.std.proofs.lemmas.Bool.{or_parts, both_ways, cond_both}
 use Rattle.nonces.specs.Nonces.{NoRepeats, Nonce, NoncesProper}
-use Rattle.nonces.specs.Sources.{big_endian, counted, sheet_nonces, listed, last_places}
-
--- ---- lists without repeats
-pub none_repeats : {X : Type 0} → NoRepeats {X = X} []
-none_repeats i j (h, l) d e = omega arith
-
-pub more_apart : {X : Type 0} (x : X) (xs : List X) → AllByRecursion (λ y. x ≢ y) xs → NoRepeats xs → NoRepeats (x ∷ xs)
-more_apart x xs a n i zero (h, l) d e = omega arith
-more_apart x xs a n zero (suc j) (h, l) d e = All-get_or (λ y. x ≢ y) xs j d (omega arith) a e
-more_apart x xs a n (suc i) (suc j) (h, l) d e = n i j (omega arith, omega arith) d e
+use Rattle.nonces.specs.Sources.{big_endian, counted, nonce_of}
 
 -- ---- a number in eight bytes
 -- eight bytes give their number back
@@ -43,21 +32,11 @@ counted_nonces : (prefix : List ℕ) (first amount : ℕ) → length prefix ≡ 
 counted_nonces prefix first zero l b = tt
 counted_nonces prefix first (suc amount) l b = (two_halves prefix first l b, counted_nonces prefix (first + 1) amount l b)
 
-length-counted : (prefix : List ℕ) (first amount : ℕ) → length (counted prefix first amount) ≡ amount
-length-counted prefix first zero = refl
-length-counted prefix first (suc amount) = ap suc (length-counted prefix (first + 1) amount)
-
-counted_at : (prefix : List ℕ) (first amount i : ℕ) (d : List ℕ) → i < amount → slice_index_or (counted prefix first amount) i d ≡ prefix ++ big_endian (first + i)
-counted_at prefix first zero i d h = absurd (not-suc-le-zero h)
-counted_at prefix first (suc amount) zero d h = ap (λ (n : ℕ). prefix ++ big_endian n) (sym (add-zero first))
-counted_at prefix first (suc amount) (suc i) d h =
-    let e : first + 1 + i ≡ first + suc i = omega arith in
-    counted_at prefix (first + 1) amount i d (omega arith) ∙ ap (λ (n : ℕ). prefix ++ big_endian n) e
-
 counted_apart : (prefix : List ℕ) (first amount : ℕ) → first + amount < 2 ^ 64 → NoRepeats (counted prefix first amount)
 counted_apart prefix first amount w i j (h, l) d e =
-    let n : length (counted prefix first amount) ≡ amount = length-counted prefix first amount in
-    let same : prefix ++ big_endian (first + i) ≡ prefix ++ big_endian (first + j) = sym (counted_at prefix first amount i d (omega arith)) ∙ e ∙ counted_at prefix first amount j d (omega arith) in
+    let f : ℕ → List ℕ = λ count. prefix ++ big_endian count in
+    let n : j < amount = omega (arith, length-map-range_with_len f first amount) in
+    let same = sym (get_or-map-range_with_len f first amount i _ d (omega arith) refl) ∙ e ∙ get_or-map-range_with_len f first amount j _ d n refl in
     let k : first + i ≡ first + j = big_endian_apart (first + i) (first + j) (omega arith) (omega arith) (append_cancel_left prefix _ _ same) in
     omega arith
 
@@ -66,30 +45,9 @@ counted_proper prefix first amount l b w =
     record { nonces = counted_nonces prefix first amount l (All-from_get_or (λ b. b < 256) prefix 0 (λ i h. b i)); no_repeats = counted_apart prefix first amount w }
 
 -- ---- sheets
-sheet_all : (entries : List ℕ) → AllByRecursion Nonce (sheet_nonces entries)
-sheet_all [] = tt
-sheet_all (high ∷ []) = tt
-sheet_all (high ∷ (low ∷ entries)) = (two_halves (big_endian high) low refl (big_endian_bytes high), sheet_all entries)
+pairs_all : (pairs : List (List ℕ)) → AllByRecursion Nonce (map nonce_of pairs)
+pairs_all [] = tt
+pairs_all (p ∷ ps) = (two_halves (big_endian (slice_index p 0)) (slice_index p 1) refl (big_endian_bytes (slice_index p 0)), pairs_all ps)
 
-pub unlisted : (n : List ℕ) (ns : List (List ℕ)) → listed n ns ≡ false → AllByRecursion (λ m. n ≢ m) ns
-unlisted n [] e = tt
-unlisted n (m ∷ ms) e =
-    let p = or_parts (bytes_eq n m) (listed n ms) e in
-    ((λ h. both_ways (bytes_eq n m) p.0 ((bytes_eq-Decides n m).1 h)), unlisted n ms p.1)
-
--- what holds of a list holds of its last places
-last_places_all : (P : List ℕ → Type 0) (ns : List (List ℕ)) → AllByRecursion P ns → AllByRecursion P (last_places ns)
-last_places_all P [] h = tt
-last_places_all P (n ∷ ns) h =
-    let r : AllByRecursion P (last_places ns) = last_places_all P ns h.1 in
-    cond_both (listed n ns) (last_places ns) (n ∷ last_places ns) (λ l. AllByRecursion P l) (λ _. r) (λ _. (h.0, r))
-
-last_places_apart : (ns : List (List ℕ)) → NoRepeats (last_places ns)
-last_places_apart [] = none_repeats
-last_places_apart (n ∷ ns) =
-    let r : NoRepeats (last_places ns) = last_places_apart ns in
-    cond_both (listed n ns) (last_places ns) (n ∷ last_places ns) (λ l. NoRepeats l) (λ _. r)
-    (λ e. more_apart n (last_places ns) (last_places_all (λ m. n ≢ m) ns (unlisted n ns e)) r)
-
-pub sheet_proper : (entries : List ℕ) → NoncesProper (last_places (sheet_nonces entries))
-sheet_proper entries = record { nonces = last_places_all Nonce (sheet_nonces entries) (sheet_all entries); no_repeats = last_places_apart (sheet_nonces entries) }
+pub sheet_proper : (pairs : List (List ℕ)) → NoRepeats (map nonce_of pairs) → NoncesProper (map nonce_of pairs)
+sheet_proper pairs n = record { nonces = pairs_all pairs; no_repeats = n }

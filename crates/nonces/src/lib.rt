@@ -28,15 +28,13 @@ pub trait NonceSource {
         ensures { MatchOption result ((pending self.old ≡ []) × (pending self.new ≡ [])) (λ n. pending self.old ≡ n ∷ pending self.new) };
 }
 
+// Two functions, since both types are the language's own, and no `From` of ours may stand between them.
 /// A nonce as two numbers, each highest byte first, as a sheet has it.
 pub fn two_numbers(nonce: &[u8; 16]) -> (u64, u64)
     ensures { result ≡ words nonce.now }
 {
-    let n = nonce;
-    (
-        u64::from_be_bytes([n[0], n[1], n[2], n[3], n[4], n[5], n[6], n[7]]),
-        u64::from_be_bytes([n[8], n[9], n[10], n[11], n[12], n[13], n[14], n[15]]),
-    )
+    let (halves, _) = nonce.as_chunks();
+    (u64::from_be_bytes(halves[0]), u64::from_be_bytes(halves[1]))
 }
 
 /// The nonce that is told as these two numbers.
@@ -44,15 +42,12 @@ pub fn from_two_numbers(high: u64, low: u64) -> [u8; 16]
     ensures value { result ≡ big_endian high ++ big_endian low }
     ensures back { words result ≡ (high, low) }
 {
-    joined(&high.to_be_bytes(), &low.to_be_bytes())
+    joined(high.to_be_bytes(), low.to_be_bytes())
 }
 
 // Two halves of a nonce, joined.
-fn joined(a: &[u8; 8], b: &[u8; 8]) -> [u8; 16]
-    ensures { result ≡ a.now ++ b.now }
+fn joined(a: [u8; 8], b: [u8; 8]) -> [u8; 16]
+    ensures { result ≡ a ++ b }
 {
-    let mut r = [0; 16];
-    r[0..8].copy_from_slice(a);
-    r[8..16].copy_from_slice(b);
-    r
+    [a, b].as_flattened().try_into().unwrap()
 }

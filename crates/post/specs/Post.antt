@@ -1,12 +1,12 @@
 -- A post of the code, seen as what its making and its calls leave.
-use Rattle.std.specs.Prelude.{◌≡◌, ℕ, List, Some, None}
+use Rattle.std.specs.Prelude.{◌≡◌, ℕ, List, Some, None, Ok, Err, Result}
 use Rattle.refusals.specs.declared.Refusal.{Refusal}
 use Rattle.refusals.specs.Refusals.{answer_number, first_no}
 use Rattle.cipher.specs.Cipher.{Answer}
+use Rattle.mode.specs.declared.Outcome.{Outcome}
 use Rattle.promise.specs.Calls.{Reply, Gave, Told}
 use Rattle.promise.specs.Answers.{Making, Standing, fresh, making_questions}
 use Rattle.post.specs.declared.Post.{Post}
-use Rattle.post.specs.declared.Outcome.{Outcome}
 use Rattle.post.specs.declared.Reading.{Reading}
 use Rattle.post.specs.declared.Unmade.{Unmade}
 
@@ -18,10 +18,10 @@ standing_of answer count pending p =
       count = count p.cipher;
       key = p.key;
       nonces = pending p.source;
-      left = p.left;
-      sealed = p.sealed;
-      opened = p.opened;
-      wrong = p.wrong;
+      left = p.reading.left;
+      sealed = p.reading.sealed;
+      opened = p.reading.opened;
+      wrong = p.reading.wrong;
     }
 
 -- What a post is made of: the meanings of cipher and source, the key and the allowance.
@@ -45,14 +45,19 @@ pub record NotMade {M C S : Type 0} (g : Making) (mode : M) (cipher : C) (source
   pub cipher_back : e.cipher ≡ cipher
   pub source_back : e.source ≡ source
 
--- What a seal or an opening of the code answers, with what it wrote, as an answer of a transcript: number, nonce, cost and bytes.
-abbrev pub reply : Outcome → (written : List (List ℕ)) → Reply
-reply r written = Gave (answer_number r.refusal) r.nonce r.cost written
+-- The nonce of a seal's answer, as two numbers: (0, 0) where it was refused.
+abbrev pub nonce_given : Result (ℕ × ℕ) Refusal → ℕ × ℕ
+nonce_given (Ok nonce) = nonce
+nonce_given (Err r) = (0, 0)
+
+-- What a seal of the code answers, with what it wrote, as an answer of a transcript: number, nonce, cost and bytes.
+abbrev pub sealed : Outcome (ℕ × ℕ) → (written : List (List ℕ)) → Reply
+sealed r written = Gave (answer_number r.answer) (nonce_given r.answer) r.cost written
+
+-- The same of an opening, which has no nonce to tell: the two numbers are 0.
+abbrev pub opened : Outcome (Unit {0}) → (written : List (List ℕ)) → Reply
+opened r written = Gave (answer_number r.answer) (0, 0) r.cost written
 
 -- What a reading of the code tells, as an answer of a transcript.
 abbrev pub told : Reading → Reply
 told r = Told r.left r.sealed r.opened r.wrong
-
--- A refusal, with no nonce and no cost: refused NoNonce has the number 12, the nonce (0, 0) and the cost 0.
-abbrev pub refused : Refusal → Outcome
-refused r = record { refusal = Some r; nonce = (0, 0); cost = 0 }

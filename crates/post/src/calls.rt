@@ -1,58 +1,19 @@
 // The calls of a post.
 ghost use Rattle.std.specs.Prelude.{◌≡◌, ◌≤◌, [], ◌∷◌, length, if◌then◌else◌, Some, None, MatchResult};
-ghost use Rattle.refusals.specs.Refusals.{first_no};
+ghost use Rattle.refusals.specs.Refusals.{first_no, after_asking};
 ghost use Rattle.cipher.specs.Cipher.{Called};
 ghost use Rattle.mode.specs.Mode.{Opened};
 ghost use Rattle.promise.specs.Calls.{Seal, Open, Read};
 ghost use Rattle.promise.specs.Answers.{questions, Stepped};
-ghost use Rattle.post.specs.Post.{standing_of, making_of, Made, NotMade, reply, told, refused as refused_of};
+ghost use Rattle.post.specs.Post.{standing_of, making_of, Made, NotMade, sealed, opened, told};
 
-use super::{Outcome, Post, Reading, Retired, Unmade};
+use super::{Post, Reading, Retired, Unmade};
+use byte_blocks::block_of;
 use cipher::Cipher;
-use mode::{Costs, Mode, ask_frame, clear};
+use mode::{Costs, Mode, Outcome, ask_frame, clear};
 use nonces::{NonceSource, two_numbers};
 use promise::ask_making;
 use refusals::Refusal;
-
-fn refused(refusal: Refusal) -> Outcome
-    ensures { result ≡ refused_of refusal }
-{
-    Outcome {
-        refusal: Some(refusal),
-        nonce: (0, 0),
-        cost: 0,
-    }
-}
-
-fn sixteen(s: &[u8]) -> [u8; 16]
-    requires { length s.now ≡ 16 }
-    ensures { result ≡ s.now }
-{
-    let mut r = [0; 16];
-    r.copy_from_slice(s);
-    r
-}
-
-// Opens a frame of lawful sizes into an output place, and says whether it was right.
-fn judge<M: Mode, C: Cipher>(
-    mode: &M,
-    cipher: &mut C,
-    key: &[u8; 16],
-    nonce: &[u8],
-    ad: &[u8],
-    text: &[u8],
-    tag: &[u8],
-    out: &mut [u8],
-) -> bool
-    requires nonce { length nonce.now ≡ 16 }
-    requires tag { length tag.now ≡ 16 }
-    requires out { length out.old ≡ length text.now }
-    ensures opened { Opened M.scheme (C.answer cipher.old) key.now nonce.now ad.now text.now tag.now result out.new }
-    ensures called { Called (C.answer cipher.old) (C.count cipher.old) (if result then (M.scheme.costs (length ad.now) (length text.now)).right else (M.scheme.costs (length ad.now) (length text.now)).wrong) (C.answer cipher.new) (C.count cipher.new) }
-{
-    out.copy_from_slice(text);
-    mode.open_in_place(cipher, key, &sixteen(nonce), ad, out, &sixteen(tag))
-}
 
 // The costs of a mode, with what every mode keeps.
 fn costs_of<M: Mode>(mode: &M, ad: &[u8], text: &[u8]) -> Costs
@@ -78,21 +39,23 @@ impl<M: Mode, C: Cipher, S: NonceSource> Post<M, C, S> {
             (λ e. NotMade (making_of C.answer C.count S.pending cipher source key.now allowance) mode cipher source e) }
     {
         match ask_making(key, allowance) {
-            Some(refusal) => Err(Unmade {
+            Err(refusal) => Err(Unmade {
                 refusal,
                 mode,
                 cipher,
                 source,
             }),
-            None => Ok(Post {
+            Ok(()) => Ok(Post {
                 mode,
                 cipher,
                 source,
-                key: sixteen(key),
-                left: allowance,
-                sealed: 0,
-                opened: 0,
-                wrong: 0,
+                key: block_of(key),
+                reading: Reading {
+                    left: allowance,
+                    sealed: 0,
+                    opened: 0,
+                    wrong: 0,
+                },
             }),
         }
     }
@@ -101,37 +64,41 @@ impl<M: Mode, C: Cipher, S: NonceSource> Post<M, C, S> {
     pub fn read_out(&self) -> Reading
         ensures { Stepped M.scheme (standing_of C.answer C.count S.pending self.now) Read (told result) (standing_of C.answer C.count S.pending self.now) }
     {
-        Reading {
-            left: self.left,
-            sealed: self.sealed,
-            opened: self.opened,
-            wrong: self.wrong,
-        }
+        let Post { reading, .. } = self;
+        *reading
     }
 
-    // The first question that refuses a seal.
-    fn ask_seal(&self, ad: &[u8], message: &[u8], out: &[u8], tag: &[u8]) -> Option<Refusal>
-        ensures { result ≡ first_no (questions M.scheme (standing_of C.answer C.count S.pending self.now) (Seal ad.now message.now out.now tag.now)) }
+    // The first question before a seal that is answered no.
+    fn ask_seal(&self, ad: &[u8], message: &[u8], out: &[u8], tag: &[u8]) -> Result<(), Refusal>
+        ensures { result ≡ after_asking (first_no (questions M.scheme (standing_of C.answer C.count S.pending self.now) (Seal ad.now message.now out.now tag.now))) }
     {
-        match ask_frame(ad.len(), message.len(), out.len(), tag.len()) {
-            None if costs_of(&self.mode, ad, message).seal > self.left => Some(
-                Refusal::AllowanceSpent,
-            ),
-            None if self.source.is_empty() => Some(Refusal::NoNonce),
-            asked => asked,
+        ask_frame(ad.len(), message.len(), out.len(), tag.len())?;
+        if costs_of(&self.mode, ad, message).seal > self.reading.left {
+            return Err(Refusal::AllowanceSpent);
         }
+        if self.source.is_empty() {
+            return Err(Refusal::NoNonce);
+        }
+        Ok(())
     }
 
-    /// Seals a message under the next nonce, into an output place and a tag place. A refusal leaves zeros there, and the post as it was.
-    pub fn seal(&mut self, ad: &[u8], message: &[u8], out: &mut [u8], tag: &mut [u8]) -> Outcome
-        ensures stepped { Stepped M.scheme (standing_of C.answer C.count S.pending self.old) (Seal ad.now message.now out.old tag.old) (reply result (out.new ∷ tag.new ∷ [])) (standing_of C.answer C.count S.pending self.new) }
+    /// Seals a message under the next nonce, into an output place and a tag place, and answers the nonce as two numbers.
+    /// A refusal leaves zeros in both places, and the post as it was.
+    pub fn seal(
+        &mut self,
+        ad: &[u8],
+        message: &[u8],
+        out: &mut [u8],
+        tag: &mut [u8],
+    ) -> Outcome<(u64, u64)>
+        ensures stepped { Stepped M.scheme (standing_of C.answer C.count S.pending self.old) (Seal ad.now message.now out.old tag.old) (sealed result (out.new ∷ tag.new ∷ [])) (standing_of C.answer C.count S.pending self.new) }
         ensures kept { result.cost ≡ 0 → self.new ≡ self.old }
         ensures mode { self.new.mode ≡ self.old.mode }
     {
-        if let Some(refusal) = self.ask_seal(ad, message, out, tag) {
+        if let Err(refusal) = self.ask_seal(ad, message, out, tag) {
             clear(out);
             clear(tag);
-            return refused(refusal);
+            return Outcome::refused(refusal);
         }
         let cost = costs_of(&self.mode, ad, message).seal;
         let nonce = self.source.next().unwrap();
@@ -140,13 +107,9 @@ impl<M: Mode, C: Cipher, S: NonceSource> Post<M, C, S> {
             .mode
             .seal_in_place(&mut self.cipher, &self.key, &nonce, ad, out);
         tag.copy_from_slice(&made);
-        self.left -= cost;
-        self.sealed += 1;
-        Outcome {
-            refusal: None,
-            nonce: two_numbers(&nonce),
-            cost,
-        }
+        self.reading.left -= cost;
+        self.reading.sealed += 1;
+        Outcome::taken(two_numbers(&nonce), cost)
     }
 
     // The first question before the verdict that refuses an opening.
@@ -157,16 +120,17 @@ impl<M: Mode, C: Cipher, S: NonceSource> Post<M, C, S> {
         text: &[u8],
         tag: &[u8],
         out: &[u8],
-    ) -> Option<Refusal>
-        ensures { result ≡ first_no (questions M.scheme (standing_of C.answer C.count S.pending self.now) (Open nonce.now ad.now text.now tag.now out.now)) }
+    ) -> Result<(), Refusal>
+        ensures { result ≡ after_asking (first_no (questions M.scheme (standing_of C.answer C.count S.pending self.now) (Open nonce.now ad.now text.now tag.now out.now))) }
     {
-        match ask_frame(ad.len(), text.len(), out.len(), tag.len()) {
-            None if nonce.len() != 16 => Some(Refusal::NonceLength),
-            None if costs_of(&self.mode, ad, text).right > self.left => Some(
-                Refusal::AllowanceSpent,
-            ),
-            asked => asked,
+        ask_frame(ad.len(), text.len(), out.len(), tag.len())?;
+        if nonce.len() != 16 {
+            return Err(Refusal::NonceLength);
         }
+        if costs_of(&self.mode, ad, text).right > self.reading.left {
+            return Err(Refusal::AllowanceSpent);
+        }
+        Ok(())
     }
 
     /// Opens a frame into an output place. A refusal leaves zeros there; one for a wrong frame costs, and any other leaves the post as it was.
@@ -177,42 +141,33 @@ impl<M: Mode, C: Cipher, S: NonceSource> Post<M, C, S> {
         text: &[u8],
         tag: &[u8],
         out: &mut [u8],
-    ) -> Outcome
-        ensures stepped { Stepped M.scheme (standing_of C.answer C.count S.pending self.old) (Open nonce.now ad.now text.now tag.now out.old) (reply result (out.new ∷ [])) (standing_of C.answer C.count S.pending self.new) }
+    ) -> Outcome<()>
+        ensures stepped { Stepped M.scheme (standing_of C.answer C.count S.pending self.old) (Open nonce.now ad.now text.now tag.now out.old) (opened result (out.new ∷ [])) (standing_of C.answer C.count S.pending self.new) }
         ensures kept { result.cost ≡ 0 → self.new ≡ self.old }
         ensures mode { self.new.mode ≡ self.old.mode }
     {
-        if let Some(refusal) = self.ask_open(nonce, ad, text, tag, out) {
+        if let Err(refusal) = self.ask_open(nonce, ad, text, tag, out) {
             clear(out);
-            return refused(refusal);
+            return Outcome::refused(refusal);
         }
         let costs = costs_of(&self.mode, ad, text);
-        let right = judge(
-            &self.mode,
+        out.copy_from_slice(text);
+        let right = self.mode.open_in_place(
             &mut self.cipher,
             &self.key,
-            nonce,
+            &block_of(nonce),
             ad,
-            text,
-            tag,
             out,
+            &block_of(tag),
         );
         if right {
-            self.left -= costs.right;
-            self.opened += 1;
-            Outcome {
-                refusal: None,
-                nonce: (0, 0),
-                cost: costs.right,
-            }
+            self.reading.left -= costs.right;
+            self.reading.opened += 1;
+            Outcome::taken((), costs.right)
         } else {
-            self.left -= costs.wrong;
-            self.wrong += 1;
-            Outcome {
-                refusal: Some(Refusal::WrongFrame),
-                nonce: (0, 0),
-                cost: costs.wrong,
-            }
+            self.reading.left -= costs.wrong;
+            self.reading.wrong += 1;
+            Outcome::wrong(costs.wrong)
         }
     }
 
@@ -223,16 +178,12 @@ impl<M: Mode, C: Cipher, S: NonceSource> Post<M, C, S> {
         ensures cipher { result.cipher ≡ self.cipher }
         ensures source { result.source ≡ self.source }
     {
-        let reading = self.read_out();
         let Post {
             mode,
             cipher,
             source,
             key: _,
-            left: _,
-            sealed: _,
-            opened: _,
-            wrong: _,
+            reading,
         } = self;
         Retired {
             reading,

@@ -2,7 +2,7 @@
 #![tactic(auto)]
 
 ghost use Rattle.std.specs.Prelude.{◌≡◌};
-ghost use Rattle.refusals.specs.Refusals.{first_no};
+ghost use Rattle.refusals.specs.Refusals.{first_no, after_asking};
 ghost use Rattle.promise.specs.Answers.{making_questions};
 ghost use Rattle.promise.specs.Promises.{NeverTwice, EverySealThatCanBeIsTaken, OpensExactlyTheRightFrames, NumbersCostsReadings, EveryRun, EveryRunCounts, EveryTwoRuns, NothingLeftOpen};
 
@@ -12,15 +12,15 @@ use refusals::Refusal;
 pub const MOST_ALLOWANCE: u64 = 1 << 40;
 
 /// The first question before a post is made that is answered no.
-pub fn ask_making(key: &[u8], allowance: u64) -> Option<Refusal>
-    ensures { result ≡ first_no (making_questions key.now allowance) }
+pub fn ask_making(key: &[u8], allowance: u64) -> Result<(), Refusal>
+    ensures { result ≡ after_asking (first_no (making_questions key.now allowance)) }
 {
     if key.len() != 16 {
-        Some(Refusal::KeyLength)
+        Err(Refusal::KeyLength)
     } else if allowance > MOST_ALLOWANCE {
-        Some(Refusal::AllowanceSize)
+        Err(Refusal::AllowanceSize)
     } else {
-        None
+        Ok(())
     }
 }
 

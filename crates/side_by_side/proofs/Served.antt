@@ -2,7 +2,7 @@
 use Rattle.std.proofs.Common.{◌≡◌, ℕ, ◌+◌, ◌<◌, ◌≤◌, min, List, [], ◌∷◌, ◌++◌, map, length, get_or, take, drop, set, sym, refl, ap, ◌∙◌, subst, ap₂, add-zero, arith, length-take}
 use Rattle.std.proofs.lemmas.List.{map-append, take_more, take_more_set, drop-set-lt, drop-drop, get_or-drop}
 use Rattle.mode.specs.Mode.{Scheme}
-use Rattle.promise.specs.Calls.{Call, Reply, Event, event}
+use Rattle.promise.specs.Calls.{Event, event}
 use Rattle.promise.specs.Answers.{Standing, Stepped, Run}
 use Rattle.promise.proofs.Runs.{run_push}
 use Rattle.side_by_side.specs.declared.turns.Turn.{Turn}
@@ -41,7 +41,3 @@ one_more m s before now i t u d y up h l st same =
       kept = gn ∙ (ap₂ (λ (s : List (List (List ℕ))) (z : List (List ℕ)). s ++ (z ∷ [])) up.kept same ∙ sym gb);
       rest = drop-set-lt (i + 1) now i y (omega arith) ∙ (sym (drop-drop 1 i now) ∙ (ap (λ (t : List Turn). drop 1 t) up.rest ∙ drop-drop 1 i before));
     }
-
--- a step seen through equal posts, calls and answers
-pub stepped_to : {P : Type 0} (st : P → Standing) (m : Scheme) (s : Standing) (c d : Call) (a b : Reply) (p q : P) → q ≡ p → d ≡ c → b ≡ a → Stepped m s c a (st p) → Stepped m s d b (st q)
-stepped_to st m s c d a b p q e f h x = rw (e, f, h) x

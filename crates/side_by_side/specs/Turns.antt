@@ -1,11 +1,11 @@
 -- Requests with their answers, seen as calls and replies. A turn is a request and its answer.
-use Rattle.std.specs.Prelude.{ℕ, List, [], ◌∷◌, vec_items}
-use Rattle.promise.specs.Calls.{Call, Seal, Open, Read, Reply, Event, event}
-use Rattle.post.specs.Post.{reply, told}
+use Rattle.std.specs.Prelude.{ℕ, List, [], ◌∷◌, Some, None, Option, vec_items}
+use Rattle.promise.specs.Calls.{Call, Seal, Open, Read, Reply, Gave, Event, event}
+use Rattle.post.specs.Post.{sealed, opened, told}
 use Rattle.side_by_side.specs.declared.turns.Request.{Request}
 use Rattle.side_by_side.specs.declared.turns.Request.TheVariants.{Seal as SealRequest, Open as OpenRequest, ReadOut}
 use Rattle.side_by_side.specs.declared.turns.Answer.{Answer}
-use Rattle.side_by_side.specs.declared.turns.Answer.TheVariants.{Outcome as OutcomeAnswer, Reading as ReadingAnswer}
+use Rattle.side_by_side.specs.declared.turns.Answer.TheVariants.{Sealed, Opened, Reading as ReadingAnswer}
 use Rattle.side_by_side.specs.declared.turns.Turn.{Turn}
 
 -- The call that a request asks for: its buffers as bytes.
@@ -26,10 +26,13 @@ inputs_of (SealRequest ad message out tag) = vec_items ad ∷ vec_items message 
 inputs_of (OpenRequest nonce ad text tag out) = vec_items nonce ∷ vec_items ad ∷ vec_items text ∷ vec_items tag ∷ []
 inputs_of ReadOut = []
 
--- An answer with the bytes that were written; a reading writes none.
-abbrev pub reply_with : List (List ℕ) → Answer → Reply
-reply_with written (OutcomeAnswer o) = reply o written
-reply_with written (ReadingAnswer r) = told r
+-- An answer with the bytes that were written; a reading writes none. Where there is no answer yet, what is told fits no call:
+-- a number, and no output place.
+abbrev pub reply_with : List (List ℕ) → Option Answer → Reply
+reply_with written (Some (Sealed o)) = sealed o written
+reply_with written (Some (Opened o)) = opened o written
+reply_with written (Some (ReadingAnswer r)) = told r
+reply_with written None = Gave 0 (0, 0) 0 []
 
 -- The call that a turn asks for.
 abbrev pub asked : Turn → Call
@@ -43,9 +46,9 @@ answered t = reply_with (places_of t.request) t.answer
 abbrev pub given : Turn → List (List ℕ)
 given t = inputs_of t.request
 
--- A turn before it is served: its answer is a reading of zeros.
+-- A turn before it is served: there is no answer.
 abbrev pub unserved : Request → Turn
-unserved request = record { request = request; answer = ReadingAnswer (record { left = 0; sealed = 0; opened = 0; wrong = 0 }) }
+unserved request = record { request = request; answer = None }
 
 -- The calls as they were handed in, each with the answer that stands there afterwards.
 -- Two turns, once served, give two events, in the same order.

@@ -5,9 +5,9 @@ ghost use Rattle.post.specs.Post.{standing_of};
 ghost use Rattle.side_by_side.specs.Turns.{asked, answered, given, transcript, unserved};
 
 use cipher::Cipher;
-use mode::Mode;
+use mode::{Mode, Outcome};
 use nonces::NonceSource;
-use post::{Outcome, Post, Reading};
+use post::{Post, Reading};
 
 /// A call of a post, with buffers of its own.
 #[derive(Drop)]
@@ -31,7 +31,8 @@ pub enum Request {
 /// What a post answers.
 #[derive(Clone, Copy)]
 pub enum Answer {
-    Outcome(Outcome),
+    Sealed(Outcome<(u64, u64)>),
+    Opened(Outcome<()>),
     Reading(Reading),
 }
 
@@ -39,22 +40,17 @@ pub enum Answer {
 #[derive(Drop)]
 pub struct Turn {
     pub request: Request,
-    pub answer: Answer,
+    pub answer: Option<Answer>,
 }
 
 impl Turn {
-    /// A request that waits to be served; its answer is a reading of zeros until then.
+    /// A request that waits to be served.
     pub fn new(request: Request) -> Turn
         ensures { result ≡ unserved request }
     {
         Turn {
             request,
-            answer: Answer::Reading(Reading {
-                left: 0,
-                sealed: 0,
-                opened: 0,
-                wrong: 0,
-            }),
+            answer: None,
         }
     }
 }
@@ -71,7 +67,7 @@ pub fn handle<M: Mode, C: Cipher, S: NonceSource>(post: &mut Post<M, C, S>, turn
             message,
             out,
             tag,
-        } => Answer::Outcome(post.seal(
+        } => Answer::Sealed(post.seal(
             ad.as_slice(),
             message.as_slice(),
             out.as_mut_slice(),
@@ -83,7 +79,7 @@ pub fn handle<M: Mode, C: Cipher, S: NonceSource>(post: &mut Post<M, C, S>, turn
             text,
             tag,
             out,
-        } => Answer::Outcome(post.open(
+        } => Answer::Opened(post.open(
             nonce.as_slice(),
             ad.as_slice(),
             text.as_slice(),
@@ -92,7 +88,7 @@ pub fn handle<M: Mode, C: Cipher, S: NonceSource>(post: &mut Post<M, C, S>, turn
         )),
         Request::ReadOut => Answer::Reading(post.read_out()),
     };
-    turn.answer = answer;
+    turn.answer = Some(answer);
 }
 
 /// Serves every turn, in order.
@@ -101,9 +97,7 @@ pub fn serve<M: Mode, C: Cipher, S: NonceSource>(post: &mut Post<M, C, S>, turns
     ensures kept { map given turns.new ≡ map given turns.old }
     ensures mode { post.new.mode ≡ post.old.mode }
 {
-    let mut i = 0;
-    while i < turns.len() {
-        handle(post, &mut turns[i]);
-        i += 1;
+    for turn in turns.iter_mut() {
+        handle(post, turn);
     }
 }

@@ -1,15 +1,13 @@
-use Rattle.std.proofs.Common.{◌≤◌, length, sym, rules}
-use Rattle.std.proofs.lemmas.Bool.{false≢true}
-use Rattle.nonces.proofs.Walks.{apart_more, repeats_here}
+use Rattle.std.proofs.Common.{◌≡◌, true}
+use Rattle.nonces.proofs.Repeats.{rest_apart, more_apart, again}
 use Rattle.nonces.proofs.sheet.all_different.Goals as goal
 
 pub returns-then-stands : goal.returns-then-stands
 returns-then-stands c =
-    let two : 2 ≤ length c.loop-left.left.now = search rules in
-    ((λ e. absurd (false≢true e)), (λ n. absurd (repeats_here c.loop-left.left.now two (sym c.if-stands.ensures) (c.loop-left.invariant.1 n))))
+    ((λ e. cc), (λ n. absurd (again _ _ (c.stands.ensures.0 c.if-stands.true) (rw c.in-Some.ensures.cases.0 at c.loop-pair.invariant.1 n))))
 
-pub loop-left-preserved : goal.loop-left-preserved
-loop-left-preserved c =
-    let two : 2 ≤ length c.loop-left.left.now = search rules in
-    let p = apart_more c.loop-left.left.now two (sym c.if-stands.ensures) in
-    ((λ n. c.loop-left.invariant.0 (p.0 n)), (λ n. p.1 (c.loop-left.invariant.1 n)))
+pub loop-pair-preserved : goal.loop-pair-preserved
+loop-pair-preserved c = (
+  (λ n. c.loop-pair.invariant.0 (rw c.in-Some.ensures.cases.0 (more_apart _ _ (λ w. let k : c.stands.result ≡ true = c.stands.ensures.1 w in cc) n))),
+  (λ n. rest_apart _ _ (rw c.in-Some.ensures.cases.0 at c.loop-pair.invariant.1 n)),
+)

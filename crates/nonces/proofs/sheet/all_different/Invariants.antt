@@ -1,13 +1,10 @@
-use Rattle.std.proofs.Common.{length}
+use Rattle.std.proofs.Common.{◌↔◌, length}
 use Rattle.nonces.specs.Nonces.{NoRepeats}
-use Rattle.nonces.specs.Sources.{sheet_nonces}
 use Rattle.nonces.proofs.sheet.all_different.Given as goal
 
--- the nonces left are all different exactly when all are
-abbrev pub invariant-loop-left : goal.invariant-loop-left
-invariant-loop-left l =
-    (NoRepeats (sheet_nonces l.left) → NoRepeats (sheet_nonces l.entries))
-    × (NoRepeats (sheet_nonces l.entries) → NoRepeats (sheet_nonces l.left))
+-- the pairs left are all different exactly when all are
+abbrev pub invariant-loop-pair : goal.invariant-loop-pair
+invariant-loop-pair l = NoRepeats l.left ↔ NoRepeats l.pairs
 
-abbrev pub decreases-loop-left : goal.decreases-loop-left
-decreases-loop-left l = length l.left
+abbrev pub decreases-loop-pair : goal.decreases-loop-pair
+decreases-loop-pair l = length l.left

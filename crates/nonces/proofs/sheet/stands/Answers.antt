@@ -1,21 +1,15 @@
-use Rattle.std.proofs.Common.{◌≡◌, ℕ, ◌≤◌, false, ◌++◌, length, ◌∙◌, ap₂, arith, rules}
-use Rattle.std.specs.Str.{bytes_eq}
-use Rattle.nonces.specs.Sources.{big_endian}
-use Rattle.nonces.proofs.Walks.{first, stands_more, stands_here, high_differs, low_differs}
+use Rattle.std.proofs.Common.{◌≡◌, ◌≢◌, ℕ, ◌<◌, Bool, true, false, List, length, Decides, MatchBool, refl, arith, rules}
+use Rattle.std.specs.Cmp.Lexicographic.{same_text, other_text}
+use Rattle.std.specs.List.{AllWithin, Contains, HoldsAt}
+use Rattle.std.proofs.lemmas.Bool.{false≢true}
+use Rattle.std.proofs.lemmas.Iterator.{cases_from_any, YieldsList-from_slice}
 use Rattle.nonces.proofs.sheet.stands.Goals as goal
-use Rattle.nonces.proofs.sheet.stands.Goals.{else-high-h-via-then-high-h+else-low-l, else-high-h-via-else-high-h}
 
-pub returns-then-low-l : goal.returns-then-low-l
-returns-then-low-l c =
-    let two : 2 ≤ length c.loop-left.left.now = search rules in
-    stands_here _ c.loop-left.left.now two (ap₂ (λ (x y : ℕ). big_endian x ++ big_endian y) c.if-high-h.true c.if-low-l.true) ∙ c.loop-left.invariant
+decided : (r : Bool) (x : List ℕ) (xs : List (List ℕ)) → MatchBool r ((k : ℕ) × (k < length xs) × HoldsAt (λ y. y ≡ x) xs k) (AllWithin (λ y. y ≢ x) xs 0 (length xs)) → Decides r (Contains xs x)
+decided true x xs h = ((λ _. (h.0, h.1, h.2 x)), (λ _. refl))
+decided false x xs h = ((λ e. absurd (false≢true e)), (λ w. absurd (h w.0 x (omega arith) w.1 w.2)))
 
-pub loop-left-preserved : goal.loop-left-preserved
-loop-left-preserved c =
-    let two : 2 ≤ length c.loop-left.left.now = search rules in
-    let other : bytes_eq (big_endian c.args.high ++ big_endian c.args.low) (first c.loop-left.left.now) ≡ false =
-    elim c.else-high-h.branch [
-      | else-high-h-via-then-high-h+else-low-l w ↦ low_differs c.args.high c.args.low _ _ (omega arith) (omega arith) w.if-low-l.false
-      | else-high-h-via-else-high-h w ↦ high_differs c.args.high c.args.low _ _ (omega arith) (omega arith) w.if-high-h.false
-    ] in
-    stands_more (big_endian c.args.high ++ big_endian c.args.low) c.loop-left.left.now two other ∙ c.loop-left.invariant
+pub returns : goal.returns
+returns c =
+    decided _ c.args.pair.now c.args.pairs.now
+    (cases_from_any _ _ _ (λ y. y ≡ c.args.pair.now) (λ y. y ≢ c.args.pair.now) c.any.ensures.ran (YieldsList-from_slice c.args.pairs.now cc) (λ x q k. same_text _ _ (search rules)) (λ x q k. (search rules, other_text _ _ (search rules))))
