@@ -1,5 +1,6 @@
 -- What is written in digits is read back.
-use Rattle.std.proofs.Common.{◌≡◌, ℕ, suc, ◌+◌, ◌*◌, ◌/◌, ◌%◌, ◌<◌, List, [], ◌∷◌, length, get_or, is_some, Some, None, unwrap_or, refl, ap, ◌∙◌, arith}
+use Rattle.std.proofs.Common.{◌≡◌, ℕ, suc, ◌+◌, ◌*◌, ◌/◌, ◌%◌, ◌<◌, List, [], ◌∷◌, length, is_none, not, true, Some, None, unwrap_or, refl, ap, ◌∙◌, arith}
+use Rattle.std.specs.List.{position_or_len}
 use Rattle.std.proofs.lemmas.Bool.{cond-true, cond-false, le-ltb, ne_eqb}
 use Rattle.std.proofs.lemmas.Bool.Decides.{nat_tests}
 use Rattle.hex_lines.specs.Digits.{digit_value, first_bad, digits_check, byte_of, bytes_of, digit_of, digits_of, Bytes, ReadBack}
@@ -18,18 +19,24 @@ bytes_back : (bs : List ℕ) → Bytes bs → bytes_of (digits_of bs) ≡ bs
 bytes_back [] h = refl
 bytes_back (b ∷ bs) h = let e = byte_back b (h 0) in let f = bytes_back bs (λ i. h (suc i)) in cc
 
-none_bad : (k : ℕ) (bs : List ℕ) → Bytes bs → first_bad k (digits_of bs) ≡ None
-none_bad k [] h = refl
-none_bad k (b ∷ bs) h =
+all_good : (bs : List ℕ) → Bytes bs → position_or_len (λ c. is_none (digit_value c)) (digits_of bs) ≡ length (digits_of bs)
+all_good [] h = refl
+all_good (b ∷ bs) h =
     let small = h 0 in
-    cond-true _ _ _ (ap is_some (digit_back (b / 16) (omega arith))) ∙ cond-true _ _ _ (ap is_some (digit_back (b % 16) (omega arith))) ∙ none_bad (k + 1 + 1) bs (λ i. h (suc i))
+    let good : (v : ℕ) → v < 16 → not (is_none (digit_value (digit_of v))) ≡ true = λ v e. ap (λ o. not (is_none o)) (digit_back v e) in
+    cond-true _ _ _ (good (b / 16) (omega arith)) ∙ ap (λ n. 1 + n) (cond-true _ _ _ (good (b % 16) (omega arith)) ∙ ap (λ n. 1 + n) (all_good bs (λ i. h (suc i)))) ∙ omega arith
+
+none_bad : (bs : List ℕ) → Bytes bs → first_bad (digits_of bs) ≡ None
+none_bad bs h =
+    let all = all_good bs h in
+    cond-false _ _ _ (le-ltb (position_or_len (λ c. is_none (digit_value c)) (digits_of bs)) (length (digits_of bs)) (omega arith))
 
 pub read_back : (bs : List ℕ) → Bytes bs → ReadBack bs
 read_back bs h =
     let long = length_digits bs in
     record {
       good = λ few.
-          cond-false _ _ _ (le-ltb 8192 (length (digits_of bs)) (omega arith)) ∙ ap (λ o. digits_check o (length (digits_of bs))) (none_bad 0 bs h)
+          cond-false _ _ _ (le-ltb 8192 (length (digits_of bs)) (omega arith)) ∙ ap (λ o. digits_check o (length (digits_of bs))) (none_bad bs h)
           ∙ cond-false _ _ _ (ne_eqb (length (digits_of bs) % 2) 1 (λ e. omega arith));
       same = bytes_back bs h;
     }

@@ -1,7 +1,8 @@
 -- Digits spell bytes, and bytes are written in digits.
-use Rattle.std.proofs.Common.{◌≡◌, ℕ, ◌+◌, ◌-◌, ◌*◌, ◌/◌, ◌%◌, ◌<◌, ◌≤◌, List, [], ◌∷◌, ◌++◌, length, get_or, take, drop, Ok, sym, refl, ap, ◌∙◌, ⊎_elim, append_assoc, arith, length-append}
-use Rattle.std.proofs.lemmas.List.{take_rest, take_all, take_more}
+use Rattle.std.proofs.Common.{◌≡◌, ℕ, ◌+◌, ◌*◌, ◌/◌, ◌%◌, ◌<◌, ◌≤◌, List, [], ◌∷◌, ◌++◌, length, get_or, take, map, suc, Ok, sym, refl, ap, ◌∙◌, ⊎_elim, append_assoc, arith}
+use Rattle.std.proofs.lemmas.List.{take_more, map-append}
 use Rattle.std.proofs.lemmas.Bool.{cond-true, lt-ltb, cases_lt}
+use Rattle.std.specs.Simd.{first_chunks}
 use Rattle.hex_lines.specs.Digits.{line_check, byte_of, bytes_of, digit_of, digits_of}
 use Rattle.hex_lines.proofs.Fills.{pushed_on}
 
@@ -10,19 +11,24 @@ length_bytes [] = refl
 length_bytes (a ∷ []) = refl
 length_bytes (a ∷ b ∷ cs) = let e = length_bytes cs in omega arith
 
-pub bytes_more : (cs : List ℕ) → 2 ≤ length cs → bytes_of cs ≡ byte_of (get_or cs 0 0) (get_or cs 1 0) ∷ bytes_of (take (length cs - 2) (drop 2 cs))
-bytes_more [] h = absurd (omega arith)
-bytes_more (a ∷ []) h = absurd (omega arith)
-bytes_more (a ∷ b ∷ cs) h = ap (λ l. byte_of a b ∷ bytes_of l) (sym (take_rest (a ∷ b ∷ cs) 2))
+-- the byte that a pair of digits spells
+abbrev pub pair_byte : (pair : List ℕ) → ℕ
+pair_byte pair = byte_of (get_or pair 0 0) (get_or pair 1 0)
 
--- one turn of reading: a byte more is held, and the rest is two digits shorter
-pub read_more : (line was now rest : List ℕ) (b : ℕ) → length line ≤ 8192 → 2 ≤ length rest → was ++ bytes_of rest ≡ bytes_of line →
-    b ≡ byte_of (get_or rest 0 0) (get_or rest 1 0) → now ≡ take 8226 (was ++ b ∷ []) → now ++ bytes_of (take (length rest - 2) (drop 2 rest)) ≡ bytes_of line
-read_more line was now rest b short two inv e pushed =
-    let more = bytes_of (take (length rest - 2) (drop 2 rest)) in
-    let whole : was ++ (b ∷ more) ≡ bytes_of line = ap (λ x. was ++ (x ∷ more)) e ∙ ap (λ l. was ++ l) (sym (bytes_more rest two)) ∙ inv in
-    let room : length (was ++ b ∷ []) ≤ 8226 = omega (arith, length-append was (b ∷ []), length-append was (b ∷ more), ap length whole, length_bytes line) in
-    ap (λ l. l ++ more) (pushed ∙ take_all 8226 (was ++ b ∷ []) room) ∙ append_assoc was (b ∷ []) more ∙ whole
+-- a line is read pair by pair
+pub read_in_pairs : (cs : List ℕ) → map pair_byte (first_chunks 2 (length cs / 2) cs) ≡ bytes_of cs
+read_in_pairs [] = refl
+read_in_pairs (a ∷ []) = refl
+read_in_pairs (a ∷ b ∷ cs) =
+    let more : length (a ∷ b ∷ cs) / 2 ≡ suc (length cs / 2) = omega arith in
+    ap (λ n. map pair_byte (first_chunks 2 n (a ∷ b ∷ cs))) more ∙ ap (λ l. byte_of a b ∷ l) (read_in_pairs cs)
+
+-- one turn of reading: the byte of one pair more is held
+pub read_more : (room : ℕ) (pairs : List (List ℕ)) (i : ℕ) {was now : List ℕ} {b : ℕ} → i < length pairs → was ≡ take room (map pair_byte (take i pairs)) →
+    b ≡ pair_byte (get_or pairs i []) → now ≡ take room (was ++ b ∷ []) → now ≡ take room (map pair_byte (take (i + 1) pairs))
+read_more room pairs i {b = b} h inv e pushed =
+    pushed_on room (map pair_byte (take i pairs)) (b ∷ []) inv pushed
+    ∙ ap (take room) (ap (λ x. map pair_byte (take i pairs) ++ x ∷ []) e ∙ sym (map-append pair_byte (take i pairs) _) ∙ sym (ap (map pair_byte) (take_more pairs i [] h)))
 
 pub length_digits : (bs : List ℕ) → length (digits_of bs) ≡ 2 * length bs
 length_digits [] = refl
@@ -33,10 +39,10 @@ digits_append [] ys = refl
 digits_append (x ∷ xs) ys = ap (λ l. digit_of (x / 16) ∷ digit_of (x % 16) ∷ l) (digits_append xs ys)
 
 -- one turn of writing: two digits more are held
-pub write_more : (room : ℕ) (start was mid now bytes : List ℕ) (i high low : ℕ) → i < length bytes → was ≡ take room (start ++ digits_of (take i bytes)) →
+pub write_more : (room : ℕ) (start bytes : List ℕ) (i : ℕ) {was mid now : List ℕ} {high low : ℕ} → i < length bytes → was ≡ take room (start ++ digits_of (take i bytes)) →
     high ≡ digit_of (get_or bytes i 0 / 16) → low ≡ digit_of (get_or bytes i 0 % 16) → mid ≡ take room (was ++ high ∷ []) → now ≡ take room (mid ++ low ∷ []) →
     now ≡ take room (start ++ digits_of (take (i + 1) bytes))
-write_more room start was mid now bytes i high low h inv e f first second =
+write_more room start bytes i {high = high} {low = low} h inv e f first second =
     let done = digits_of (take i bytes) in
     let two : high ∷ low ∷ [] ≡ digits_of (get_or bytes i 0 ∷ []) = cc in
     let more : done ++ (high ∷ low ∷ []) ≡ digits_of (take (i + 1) bytes) =

@@ -1,5 +1,5 @@
 -- Hexadecimal: a character is a byte, two digits spell a byte.
-use Rattle.std.specs.Prelude.{◌≡◌, ℕ, ◌+◌, ◌-◌, ◌*◌, ◌/◌, ◌%◌, ◌<◌, ◌≤◌, Bool, cond, ◌&&◌, List, [], ◌∷◌, length, is_some, Some, None, Ok, Err, Option, Result, ◌==◌, nat_le, nat_lt, slice_index}
+use Rattle.std.specs.Prelude.{◌≡◌, ℕ, ◌+◌, ◌-◌, ◌*◌, ◌/◌, ◌%◌, ◌<◌, ◌≤◌, Bool, cond, ◌&&◌, List, [], ◌∷◌, length, position, is_none, Some, None, Ok, Err, Option, Result, ◌==◌, nat_le, nat_lt, slice_index}
 use Rattle.std.specs.Option.{unwrap_or}
 use Rattle.hex_lines.specs.declared.fault.LineFault.{LineFault}
 use Rattle.hex_lines.specs.declared.fault.LineFault.TheVariants.{BadDigit, OddDigits, LongLine}
@@ -15,11 +15,9 @@ digit_value c =
     cond (within 0x30 0x39 c) (Some (c - 0x30))
     (cond (within 0x61 0x66 c) (Some (c - 0x61 + 10)) (cond (within 0x41 0x46 c) (Some (c - 0x41 + 10)) None))
 
--- The place of the first character that is no digit, where the first character has the place k.
--- first_bad 0 of 4g is Some 1, and of 4b None.
-abbrev pub first_bad : (k : ℕ) → List ℕ → Option ℕ
-first_bad k [] = None
-first_bad k (c ∷ cs) = cond (is_some (digit_value c)) (first_bad (k + 1) cs) (Some k)
+-- The place of the first character that is no digit, counted from 0: first_bad of 4g is Some 1, and of 4b None.
+abbrev pub first_bad : List ℕ → Option ℕ
+first_bad line = position (λ c. is_none (digit_value c)) line
 
 -- The last two questions on a line, by the place of its first bad character and the count of all: are there only digits, and evenly many?
 -- digits_check None 3 is Err OddDigits.
@@ -30,7 +28,7 @@ digits_check None count = cond (count % 2 == 1) (Err OddDigits) (Ok tt)
 -- The questions on a line, in their order: has it at most 8,192 characters, only digits, evenly many?
 -- 4g and 4g0 are refused for the character at place 1, and 4 for being odd.
 abbrev pub line_check : List ℕ → Result (Unit {0}) LineFault
-line_check line = cond (nat_lt 8192 (length line)) (Err LongLine) (digits_check (first_bad 0 line) (length line))
+line_check line = cond (nat_lt 8192 (length line)) (Err LongLine) (digits_check (first_bad line) (length line))
 
 -- The byte that two digits spell: 4 and b (0x34 and 0x62) spell 0x4b.
 abbrev pub byte_of : (high low : ℕ) → ℕ

@@ -34,7 +34,11 @@ fault_place (Frame NoKey) = 0
 fault_place (Frame UnknownCipher) = 0
 fault_place (Mode refusal) = 0
 
+-- A number in two bytes, the highest first: two_bytes 258 is 1 ∷ 2 ∷ [].
+abbrev pub two_bytes : ℕ → List ℕ
+two_bytes n = (n / 256 % 256) ∷ (n % 256) ∷ []
+
 -- The four bytes of a refusal: number, layer, and the place in two bytes, the highest first.
 -- report_of (Line (BadDigit 1)) is 0x10 ∷ 0x4c ∷ 0x00 ∷ 0x01 ∷ [].
 abbrev pub report_of : Fault → List ℕ
-report_of fault = fault_number fault ∷ fault_layer fault ∷ (fault_place fault / 256 % 256) ∷ (fault_place fault % 256) ∷ []
+report_of fault = fault_number fault ∷ fault_layer fault ∷ two_bytes (fault_place fault)

@@ -1,7 +1,7 @@
 //! Why a line is refused: a fault for each layer that a line goes through, with its number, its layer letter and its place.
 ghost use Rattle.std.specs.Prelude.{◌≡◌};
 ghost use Rattle.hex_lines.specs.declared.fault.Fault.TheVariants.{Line, Frame, Mode};
-ghost use Rattle.hex_lines.specs.Faults.{fault_number, fault_layer, fault_place, report_of};
+ghost use Rattle.hex_lines.specs.Faults.{fault_number, fault_layer, fault_place, two_bytes, report_of};
 
 use refusals::Refusal;
 
@@ -37,6 +37,7 @@ pub enum Fault {
     Mode(Refusal),
 }
 
+// These three by hand, since the contracts above read from `from_gives` which fault a `?` makes, and a derive says nothing of it.
 impl From<LineFault> for Fault {
     ghost from_gives = { λ e r. r ≡ Line e };
 
@@ -61,8 +62,15 @@ impl From<Refusal> for Fault {
     }
 }
 
+/// A number in two bytes, the highest first.
+pub fn two_bytes(number: usize) -> [u8; 2]
+    ensures { result ≡ two_bytes number }
+{
+    ((number % 0x10000) as u16).to_be_bytes()
+}
+
 impl Fault {
-    /// The refusal's number.
+    /// The refusal's number. A match, since a case with a field has no number of its own.
     pub fn number(self) -> u8
         ensures { result ≡ fault_number self }
     {
@@ -104,12 +112,7 @@ impl Fault {
     pub fn report(self) -> [u8; 4]
         ensures { result ≡ report_of self }
     {
-        let place = self.place();
-        [
-            self.number(),
-            self.layer(),
-            (place / 256 % 256) as u8,
-            (place % 256) as u8,
-        ]
+        let [high, low] = two_bytes(self.place());
+        [self.number(), self.layer(), high, low]
     }
 }

@@ -4,7 +4,7 @@
 ghost use Rattle.std.specs.Prelude.{◌≡◌, ◌<◌, ◌++◌, take};
 ghost use Rattle.std.specs.Option.{unwrap_or};
 ghost use Rattle.hex_lines.specs.Digits.{digit_value, first_bad, line_check, digit_of, digits_of, ReadBack};
-ghost use Rattle.hex_lines.specs.Buffers.{contents, Decoded};
+ghost use Rattle.hex_lines.specs.Buffers.{Decoded};
 
 pub mod buffer;
 pub mod fault;
@@ -19,6 +19,7 @@ pub const LONGEST_LINE: usize = 8192;
 pub fn digit(character: u8) -> Option<u8>
     ensures { result ≡ digit_value character }
 {
+    // By ranges, since reading a run of lines by `char::to_digit` took a tenth longer.
     match character {
         b'0'..=b'9' => Some(character - b'0'),
         b'a'..=b'f' => Some(character - b'a' + 10),
@@ -29,14 +30,10 @@ pub fn digit(character: u8) -> Option<u8>
 
 // The place of the first character that is no digit.
 fn find_bad(line: &[u8]) -> Option<usize>
-    ensures { result ≡ first_bad 0 line.now }
+    ensures { result ≡ first_bad line.now }
 {
-    for (place, character) in line.iter().enumerate() {
-        if digit(*character).is_none() {
-            return Some(place);
-        }
-    }
-    None
+    line.iter()
+        .position(|character| digit(*character).is_none())
 }
 
 /// The questions asked of every line, in their order.
@@ -63,16 +60,14 @@ fn value(character: u8) -> u8
     digit(character).unwrap_or(0)
 }
 
-/// Reads a line into a buffer, which then holds the bytes that the line spells. A fault leaves the buffer as it was.
-pub fn decode(line: &[u8], bytes: &mut Buffer) -> Result<(), LineFault>
-    ensures { Decoded line.now bytes.old result bytes.new }
+/// Reads a line into a buffer, which then holds the bytes that the line spells, as many as there is room for. A fault leaves the buffer as it was.
+pub fn decode<const ROOM: usize>(line: &[u8], bytes: &mut Buffer<ROOM>) -> Result<(), LineFault>
+    ensures { Decoded ROOM line.now bytes.old result bytes.new }
 {
     check_line(line)?;
     bytes.clear();
-    let mut rest = line;
-    while let [high, low, more @ ..] = rest {
+    for [high, low] in line.as_chunks::<2>().0 {
         bytes.push(value(*high) * 16 + value(*low));
-        rest = more;
     }
     Ok(())
 }
@@ -82,18 +77,16 @@ fn small_digit(value: u8) -> u8
     requires { value < 16 }
     ensures { result ≡ digit_of value }
 {
-    if value < 10 {
-        b'0' + value
-    } else {
-        b'a' + (value - 10)
-    }
+    char::from_digit(u32::from(value), 16).unwrap() as u8
 }
 
 /// Adds two small digits for each byte to a text, as many as there is room for. Read as a line, the digits spell the bytes again.
-pub fn encode(bytes: &[u8], text: &mut Buffer)
+pub fn encode<const ROOM: usize>(bytes: &[u8], text: &mut Buffer<ROOM>)
     ensures back { ReadBack bytes.now }
-    ensures digits { contents text.new ≡ take 8226 (contents text.old ++ digits_of bytes.now) }
+    ensures digits { text.new ≡ take ROOM (text.old ++ digits_of bytes.now) }
 {
+    // what a buffer holds fits its room
+    prove!(text.as_slice().len() <= ROOM);
     for byte in bytes {
         text.push(small_digit(*byte / 16));
         text.push(small_digit(*byte % 16));

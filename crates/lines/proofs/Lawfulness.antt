@@ -6,7 +6,6 @@ use Rattle.hex_lines.specs.declared.fault.Fault.{Fault}
 use Rattle.hex_lines.specs.Digits.{line_check, bytes_of, digits_of, ReadBack}
 use Rattle.hex_lines.proofs.Spelling.{bytes_short, length_digits}
 use Rattle.cipher.specs.Cipher.{Answer, Sixteen}
-use Rattle.skinny.specs.declared.Rounds.TheVariants.{Forty, FiftySix}
 use Rattle.skinny.specs.Sixteen.{answer_long}
 use Rattle.mode.specs.Mode.{Keeps}
 use Rattle.romulus_n.specs.Laws.{n_keeps}
@@ -15,7 +14,7 @@ use Rattle.romulus_t.specs.Laws.{t_keeps}
 use Rattle.lines.specs.declared.frame.Variant.{Variant}
 use Rattle.lines.specs.declared.frame.Variant.TheVariants.{RomulusN, RomulusM, RomulusT}
 use Rattle.lines.specs.declared.frame.CipherName.{CipherName}
-use Rattle.lines.specs.declared.frame.CipherName.TheVariants.{Skinny40, Skinny56, StandIn}
+use Rattle.lines.specs.declared.frame.CipherName.TheVariants.{Skinny, StandIn}
 use Rattle.lines.specs.declared.session.Held.{Held}
 use Rattle.lines.specs.Frames.{Order, take_key, choose, seal, unseal, digest, order_of}
 use Rattle.lines.specs.Services.{cipher_answer, scheme_of, sealed_frame, Opens}
@@ -32,8 +31,7 @@ keeps_of RomulusT = t_keeps
 
 -- every cipher answers with 16 bytes
 sixteen_of : (c : CipherName) → Sixteen (cipher_answer c)
-sixteen_of Skinny40 = answer_long Forty
-sixteen_of Skinny56 = answer_long FiftySix
+sixteen_of (Skinny rounds) = answer_long rounds
 sixteen_of StandIn = λ tweakey block. refl
 
 -- ---- a line has one answer

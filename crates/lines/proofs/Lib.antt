@@ -1,5 +1,4 @@
 pub mod Named
-pub mod Reading
 pub mod Sealing
 pub mod Asking
 pub mod Answering

@@ -6,7 +6,8 @@ use Rattle.lines.specs.declared.frame.Variant.{Variant}
 use Rattle.lines.specs.declared.frame.Variant.TheVariants.{RomulusN, RomulusM, RomulusT}
 use Rattle.lines.specs.declared.frame.Kind.TheVariants.{Open}
 use Rattle.lines.specs.Frames.{kind_of, ad_length, nonce_of, ad_of, text_of, without_tag, tag_of, unseal, ordered_if, order_of}
-use Rattle.lines.specs.Services.{letter_of, length_bytes, sealed_frame}
+use Rattle.hex_lines.specs.Faults.{two_bytes}
+use Rattle.lines.specs.Services.{letter_of, sealed_frame}
 
 -- the letter of a sealed frame asks for an opening by the same mode
 opening_letter : (v : Variant) → kind_of (letter_of v) ≡ Some (Open v)
@@ -16,14 +17,14 @@ opening_letter RomulusT = refl
 
 module _ (nonce ad text tag : List ℕ) (n : length nonce ≡ 16) (t : length tag ≡ 16) (few : length ad ≤ 65535) where
   body : List ℕ
-  body = nonce ++ (length_bytes (length ad) ++ (ad ++ (text ++ tag)))
+  body = nonce ++ (two_bytes (length ad) ++ (ad ++ (text ++ tag)))
 
-  body_after_lengths : body ≡ (nonce ++ length_bytes (length ad)) ++ (ad ++ (text ++ tag))
+  body_after_lengths : body ≡ (nonce ++ two_bytes (length ad)) ++ (ad ++ (text ++ tag))
   unfolding body
-  body_after_lengths = sym (append_assoc nonce (length_bytes (length ad)) (ad ++ (text ++ tag)))
+  body_after_lengths = sym (append_assoc nonce (two_bytes (length ad)) (ad ++ (text ++ tag)))
 
-  long_head : length (nonce ++ length_bytes (length ad)) ≡ 18
-  long_head = length-append nonce (length_bytes (length ad)) ∙ omega arith
+  long_head : length (nonce ++ two_bytes (length ad)) ≡ 18
+  long_head = length-append nonce (two_bytes (length ad)) ∙ omega arith
 
   length_told : ad_length body ≡ length ad
   unfolding body
@@ -35,11 +36,11 @@ module _ (nonce ad text tag : List ℕ) (n : length nonce ≡ 16) (t : length ta
       omega (arith, high, low)
 
   behind_head : drop 18 body ≡ ad ++ (text ++ tag)
-  behind_head = ap (drop 18) body_after_lengths ∙ drop_at (nonce ++ length_bytes (length ad)) (ad ++ (text ++ tag)) 18 long_head
+  behind_head = ap (drop 18) body_after_lengths ∙ drop_at (nonce ++ two_bytes (length ad)) (ad ++ (text ++ tag)) 18 long_head
 
   nonce_told : nonce_of body ≡ nonce
   unfolding body
-  nonce_told = take_at nonce (length_bytes (length ad) ++ (ad ++ (text ++ tag))) 16 n
+  nonce_told = take_at nonce (two_bytes (length ad) ++ (ad ++ (text ++ tag))) 16 n
 
   ad_told : ad_of body ≡ ad
   ad_told = ap (λ k. take k (drop 18 body)) length_told ∙ ap (take (length ad)) behind_head ∙ take_at ad (text ++ tag) (length ad) refl
@@ -56,7 +57,7 @@ module _ (nonce ad text tag : List ℕ) (n : length nonce ≡ 16) (t : length ta
 
   long_body : length body ≡ 18 + length ad + length text + 16
   long_body =
-      ap length body_after_lengths ∙ length-append (nonce ++ length_bytes (length ad)) (ad ++ (text ++ tag))
+      ap length body_after_lengths ∙ length-append (nonce ++ two_bytes (length ad)) (ad ++ (text ++ tag))
       ∙ omega (arith, long_head, length-append ad (text ++ tag), length-append text tag)
 
   pub sealed_asks : (v : Variant) (key : List ℕ) → order_of (Some key) (sealed_frame v nonce ad (text, tag)) ≡ Ok (unseal v key nonce ad text tag)

@@ -3,7 +3,8 @@ use Rattle.std.proofs.Common.{◌≡◌, ℕ, ◌+◌, ◌≤◌, List, [], ◌�
 use Rattle.std.proofs.lemmas.List.{take_all}
 use Rattle.hex_lines.proofs.Fills.{pushed_on}
 use Rattle.lines.specs.declared.frame.Variant.{Variant}
-use Rattle.lines.specs.Services.{letter_of, length_bytes, sealed_frame}
+use Rattle.hex_lines.specs.Faults.{two_bytes}
+use Rattle.lines.specs.Services.{letter_of, sealed_frame}
 
 pub length_sealed : (v : Variant) (nonce ad text tag : List ℕ) → length nonce ≡ 16 → length tag ≡ 16 →
     length (sealed_frame v nonce ad (text, tag)) ≡ 35 + length ad + length text
@@ -11,8 +12,8 @@ unfolding sealed_frame
 length_sealed v nonce ad text tag n t =
     omega (
       arith,
-      length-append nonce (length_bytes (length ad) ++ (ad ++ (text ++ tag))),
-      length-append (length_bytes (length ad)) (ad ++ (text ++ tag)),
+      length-append nonce (two_bytes (length ad) ++ (ad ++ (text ++ tag))),
+      length-append (two_bytes (length ad)) (ad ++ (text ++ tag)),
       length-append ad (text ++ tag),
       length-append text tag,
     )
@@ -22,7 +23,7 @@ regroup a b c d e = simp append_assoc
 
 -- six pushes make the frame
 pub put_together_lem : (room : ℕ) (v : Variant) (nonce ad text tag : List ℕ) {h₀ h₁ h₂ h₃ h₄ h₅ h₆ : List ℕ} {letter : ℕ} {len : List ℕ} →
-    length nonce ≡ 16 → length tag ≡ 16 → 35 + length ad + length text ≤ room → letter ≡ letter_of v → len ≡ length_bytes (length ad) → h₀ ≡ [] →
+    length nonce ≡ 16 → length tag ≡ 16 → 35 + length ad + length text ≤ room → letter ≡ letter_of v → len ≡ two_bytes (length ad) → h₀ ≡ [] →
     h₁ ≡ take room (h₀ ++ (letter ∷ [])) → h₂ ≡ take room (h₁ ++ nonce) → h₃ ≡ take room (h₂ ++ len) → h₄ ≡ take room (h₃ ++ ad) → h₅ ≡ take room (h₄ ++ text) → h₆ ≡ take room (h₅ ++ tag) →
     h₆ ≡ sealed_frame v nonce ad (text, tag)
 unfolding sealed_frame

@@ -5,7 +5,8 @@ use Rattle.hex_lines.specs.declared.fault.FrameFault.TheVariants.{UnknownLetter,
 use Rattle.lines.specs.declared.frame.Variant.{Variant}
 use Rattle.lines.specs.declared.frame.Variant.TheVariants.{RomulusN, RomulusM, RomulusT}
 use Rattle.lines.specs.declared.frame.CipherName.{CipherName}
-use Rattle.lines.specs.declared.frame.CipherName.TheVariants.{Skinny40, Skinny56, StandIn}
+use Rattle.lines.specs.declared.frame.CipherName.TheVariants.{Skinny, StandIn}
+use Rattle.skinny.specs.declared.Rounds.TheVariants.{Forty, FiftySix}
 use Rattle.lines.specs.declared.frame.Kind.{Kind}
 use Rattle.lines.specs.declared.frame.Kind.TheVariants.{Key, Cipher, Seal, Open, Hash}
 
@@ -19,7 +20,7 @@ kind_of letter =
 
 -- The cipher that a byte names: 28 and 38 (hexadecimal, 40 and 56) are the rounds of Skinny, 00 is the bench stand-in.
 abbrev pub cipher_of : ℕ → Option CipherName
-cipher_of byte = cond (byte == 0x28) (Some Skinny40) (cond (byte == 0x38) (Some Skinny56) (cond (byte == 0x00) (Some StandIn) None))
+cipher_of byte = cond (byte == 0x28) (Some (Skinny Forty)) (cond (byte == 0x38) (Some (Skinny FiftySix)) (cond (byte == 0x00) (Some StandIn) None))
 
 -- The body of a frame to be sealed or opened, behind its letter, begins with 16 bytes of nonce.
 abbrev pub nonce_of : List ℕ → List ℕ
@@ -85,7 +86,7 @@ ordered_if (Some kind) held body = cond (fits kind body) (ordered kind held body
 
 -- What a frame asks for of a session that holds this key, if any, or the first question that is answered no:
 -- is the letter known, does the length fit, is the cipher known, is a key held?
--- order_of None [] is Err UnknownLetter; the frame 0x43 ∷ 0x28 ∷ [] asks for Skinny40, whatever is held.
+-- order_of None [] is Err UnknownLetter; the frame 0x43 ∷ 0x28 ∷ [] asks for Skinny Forty, whatever is held.
 abbrev pub order_of : (held : Option (List ℕ)) → (frame : List ℕ) → Result Order FrameFault
 order_of held [] = Err UnknownLetter
 order_of held (letter ∷ body) = ordered_if (kind_of letter) held body

@@ -1,7 +1,8 @@
 -- What holds of every answer, and of every run of a session.
 use Rattle.std.specs.Prelude.{◌≡◌, ℕ, ◌≤◌, List, [], ◌∷◌, ◌++◌, map, length, take, drop, None, Ok}
 use Rattle.hex_lines.specs.Digits.{digits_of}
-use Rattle.lines.specs.declared.frame.CipherName.TheVariants.{Skinny40}
+use Rattle.lines.specs.declared.frame.CipherName.TheVariants.{Skinny}
+use Rattle.skinny.specs.declared.Rounds.TheVariants.{Forty}
 use Rattle.lines.specs.declared.frame.Variant.{Variant}
 use Rattle.lines.specs.declared.session.Held.{Held}
 use Rattle.lines.specs.Frames.{seal}
@@ -9,7 +10,7 @@ use Rattle.lines.specs.Sessions.{line_order, held_after, Answers}
 
 -- At first a session holds no key, and Skinny with 40 rounds.
 abbrev pub at_first : Held
-at_first = record { key = None; cipher = Skinny40 }
+at_first = record { key = None; cipher = Skinny Forty }
 
 -- A refusal is an answer that does not begin with 00: 104c0001 is one.
 abbrev pub Refused : (text : List ℕ) → Type 0

@@ -1,11 +1,9 @@
 -- How the code holds the parts of a frame, what it asks for, and the reply. Inner functions speak of it; no public contract does.
-use Rattle.std.specs.Prelude.{◌≡◌, ℕ, ◌+◌, ◌<◌, ◌≤◌, List, length, IfOk, Some, None, Ok, Err, Option, Result}
+use Rattle.std.specs.Prelude.{◌≡◌, ℕ, ◌+◌, ◌<◌, ◌≤◌, List, length, Some, None, Ok, Err, Option, Result}
 use Rattle.refusals.specs.declared.Refusal.{Refusal}
-use Rattle.hex_lines.specs.declared.buffer.Buffer.{Buffer}
 use Rattle.hex_lines.specs.declared.fault.FrameFault.{FrameFault}
 use Rattle.hex_lines.specs.declared.fault.Fault.{Fault}
 use Rattle.hex_lines.specs.declared.fault.Fault.TheVariants.{Mode}
-use Rattle.hex_lines.specs.Buffers.{contents}
 use Rattle.lines.specs.declared.frame.Parts.{Parts}
 use Rattle.lines.specs.declared.frame.Sealed.{Sealed}
 use Rattle.lines.specs.declared.frame.Request.{Request}
@@ -62,17 +60,11 @@ Small (unseal v key nonce ad text tag) = length text ≤ 4096
 Small (digest text) = Unit {0}
 
 -- What a mode gives, as the reply to a line: the bytes, or the refusal told as the mode layer's.
-abbrev pub mode_reply : Result Buffer Refusal → Result (List ℕ) Fault
-mode_reply (Ok b) = Ok (contents b)
+abbrev pub mode_reply : Result (List ℕ) Refusal → Result (List ℕ) Fault
+mode_reply (Ok bytes) = Ok bytes
 mode_reply (Err refusal) = Err (Mode refusal)
 
--- A reply as the code holds it, with the bytes of its buffer.
-abbrev pub line_reply : Result Buffer Fault → Result (List ℕ) Fault
-line_reply (Ok b) = Ok (contents b)
-line_reply (Err fault) = Err fault
-
--- A line that the code replied to: the reply, what is then held, and that the answer will have room: a sealed frame has at most 4,112 bytes.
-pub record Replied (s : Held) (line : List ℕ) (r : Result Buffer Fault) (s' : Held) : Type 0 where
-  pub told : Tells (cipher_answer s.cipher) (line_order s line) (line_reply r)
+-- A line that the code replied to: the reply, and what is then held.
+pub record Replied (s : Held) (line : List ℕ) (r : Result (List ℕ) Fault) (s' : Held) : Type 0 where
+  pub told : Tells (cipher_answer s.cipher) (line_order s line) r
   pub held : s' ≡ held_after s (line_order s line)
-  pub short : IfOk r (λ b. length (contents b) ≤ 4112)

@@ -22,7 +22,7 @@ Gives f (seal v key nonce ad message) r = r ≡ Ok (sealed_frame v nonce ad ((sc
 Gives f (unseal v key nonce ad text tag) r = Opens (scheme_of v) f key nonce ad text tag r
 Gives f (digest text) r = r ≡ Ok (digest_of f text)
 
--- What a session holds after an order: another key or another cipher, else the same. After choose Skinny56 the key is as before.
+-- What a session holds after an order: another key or another cipher, else the same. After choose (Skinny FiftySix) the key is as before.
 abbrev pub after : Held → Order → Held
 after s (take_key key) = record { key = Some key; cipher = s.cipher }
 after s (choose cipher) = record { key = s.key; cipher = cipher }
@@ -41,7 +41,7 @@ abbrev pub checked_order : Held → (line : List ℕ) → Result (Unit {0}) Line
 checked_order s line (Err fault) = Err (Line fault)
 checked_order s line (Ok good) = frame_order (order_of s.key (bytes_of line))
 
--- What a line orders of a session, or the first question that is answered no. 4328 orders choose Skinny40; 4g is Err (Line (BadDigit 1)).
+-- What a line orders of a session, or the first question that is answered no. 4328 orders choose (Skinny Forty); 4g is Err (Line (BadDigit 1)).
 abbrev pub line_order : Held → (line : List ℕ) → Result Order Fault
 line_order s line = checked_order s line (line_check line)
 
@@ -51,7 +51,7 @@ Tells f (Err fault) r = r ≡ Err fault
 Tells f (Ok order) r = Gives f order r
 
 -- What a session holds after a line. A refused line leaves it as it was.
--- After 4338 it holds Skinny56.
+-- After 4338 it holds Skinny FiftySix.
 abbrev pub held_after : Held → Result Order Fault → Held
 held_after s (Err fault) = s
 held_after s (Ok order) = after s order

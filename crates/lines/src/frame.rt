@@ -1,9 +1,12 @@
 //! Frames: the kind that a frame's letter names, and what a frame asks for.
-ghost use Rattle.std.specs.Prelude.{◌≡◌, if◌then◌else◌, Err};
-ghost use Rattle.lines.specs.Frames.{kind_of, cipher_of, fits, ordered, order_of};
+ghost use Rattle.std.specs.Prelude.{◌≡◌};
+ghost use Rattle.std.specs.Option.{ok_or};
+ghost use Rattle.hex_lines.specs.declared.fault.FrameFault.TheVariants.{UnknownLetter, UnknownCipher};
+ghost use Rattle.lines.specs.Frames.{kind_of, cipher_of, ordered_if, order_of};
 ghost use Rattle.lines.specs.Requests.{Cut, SealedCut, ReadAs};
 
 use hex_lines::fault::FrameFault;
+use skinny::Rounds;
 
 /// The three modes that seal.
 #[derive(Clone, Copy)]
@@ -13,11 +16,10 @@ pub enum Variant {
     RomulusT,
 }
 
-/// The three ciphers.
+/// The ciphers: Skinny with its 40 or 56 rounds, and the bench stand-in.
 #[derive(Clone, Copy)]
 pub enum CipherName {
-    Skinny40,
-    Skinny56,
+    Skinny(Rounds),
     StandIn,
 }
 
@@ -56,33 +58,41 @@ pub enum Request<'a> {
     Hash(&'a [u8]),
 }
 
-// The kind that a letter names.
-fn kind_of(letter: u8) -> Option<Kind>
-    ensures { result ≡ kind_of letter }
-{
-    match char::from(letter) {
-        'K' => Some(Kind::Key),
-        'C' => Some(Kind::Cipher),
-        'n' => Some(Kind::Seal(Variant::RomulusN)),
-        'm' => Some(Kind::Seal(Variant::RomulusM)),
-        't' => Some(Kind::Seal(Variant::RomulusT)),
-        'N' => Some(Kind::Open(Variant::RomulusN)),
-        'M' => Some(Kind::Open(Variant::RomulusM)),
-        'T' => Some(Kind::Open(Variant::RomulusT)),
-        'H' => Some(Kind::Hash),
-        _ => None,
+impl TryFrom<u8> for Kind {
+    type Error = FrameFault;
+
+    ghost try_from_gives = { λ letter r. r ≡ ok_or (kind_of letter) UnknownLetter };
+
+    /// The kind that a letter names.
+    fn try_from(letter: u8) -> Result<Kind, FrameFault> {
+        match char::from(letter) {
+            'K' => Ok(Kind::Key),
+            'C' => Ok(Kind::Cipher),
+            'n' => Ok(Kind::Seal(Variant::RomulusN)),
+            'm' => Ok(Kind::Seal(Variant::RomulusM)),
+            't' => Ok(Kind::Seal(Variant::RomulusT)),
+            'N' => Ok(Kind::Open(Variant::RomulusN)),
+            'M' => Ok(Kind::Open(Variant::RomulusM)),
+            'T' => Ok(Kind::Open(Variant::RomulusT)),
+            'H' => Ok(Kind::Hash),
+            _ => Err(FrameFault::UnknownLetter),
+        }
     }
 }
 
-// The cipher that a byte names: by its rounds, or 0 for the stand-in.
-fn cipher_of(byte: u8) -> Option<CipherName>
-    ensures { result ≡ cipher_of byte }
-{
-    match byte {
-        0x28 => Some(CipherName::Skinny40),
-        0x38 => Some(CipherName::Skinny56),
-        0x00 => Some(CipherName::StandIn),
-        _ => None,
+impl TryFrom<u8> for CipherName {
+    type Error = FrameFault;
+
+    ghost try_from_gives = { λ byte r. r ≡ ok_or (cipher_of byte) UnknownCipher };
+
+    /// The cipher that a byte names: by its rounds, or 0 for the stand-in.
+    fn try_from(byte: u8) -> Result<CipherName, FrameFault> {
+        match byte {
+            0x28 => Ok(CipherName::Skinny(Rounds::Forty)),
+            0x38 => Ok(CipherName::Skinny(Rounds::FiftySix)),
+            0x00 => Ok(CipherName::StandIn),
+            _ => Err(FrameFault::UnknownCipher),
+        }
     }
 }
 
@@ -114,11 +124,8 @@ fn cut(body: &[u8]) -> Option<Parts<'_>>
     else {
         return None;
     };
-    let len = *high as usize * 256 + *low as usize;
-    if rest.len() < len {
-        return None;
-    }
-    let (ad, text) = rest.split_at(len);
+    let len = usize::from(u16::from_be_bytes([*high, *low]));
+    let (ad, text) = rest.split_at_checked(len)?;
     let nonce = [
         *n0, *n1, *n2, *n3, *n4, *n5, *n6, *n7, *n8, *n9, *n10, *n11, *n12, *n13, *n14, *n15,
     ];
@@ -130,102 +137,40 @@ fn cut_sealed(body: &[u8]) -> Option<Sealed<'_>>
     ensures { SealedCut body.now result }
 {
     let Parts { nonce, ad, text } = cut(body)?;
-    let [
-        text @ ..,
-        t0,
-        t1,
-        t2,
-        t3,
-        t4,
-        t5,
-        t6,
-        t7,
-        t8,
-        t9,
-        t10,
-        t11,
-        t12,
-        t13,
-        t14,
-        t15,
-    ] = text
-    else {
-        return None;
-    };
-    let tag = [
-        *t0, *t1, *t2, *t3, *t4, *t5, *t6, *t7, *t8, *t9, *t10, *t11, *t12, *t13, *t14, *t15,
-    ];
+    let (text, tag) = text.split_last_chunk()?;
     Some(Sealed {
         parts: Parts { nonce, ad, text },
-        tag,
+        tag: *tag,
     })
 }
 
-// What a frame of this kind asks for, with what stands behind its letter; or the first of the later questions that is answered no.
-fn read_body<'a>(
-    kind: Kind,
-    key: Option<[u8; 16]>,
-    body: &'a [u8],
-    misfit: FrameFault,
-) -> Result<Request<'a>, FrameFault>
-    ensures { ReadAs (if fits kind body.now then ordered kind key body.now else Err misfit) result }
-{
-    match kind {
-        Kind::Key => {
-            let [
-                k0,
-                k1,
-                k2,
-                k3,
-                k4,
-                k5,
-                k6,
-                k7,
-                k8,
-                k9,
-                k10,
-                k11,
-                k12,
-                k13,
-                k14,
-                k15,
-            ] = body
-            else {
-                return Err(misfit);
-            };
-            Ok(Request::TakeKey([
-                *k0, *k1, *k2, *k3, *k4, *k5, *k6, *k7, *k8, *k9, *k10, *k11, *k12, *k13, *k14,
-                *k15,
-            ]))
+impl Kind {
+    // What a frame of this kind asks for, with what stands behind its letter; or the first of the later questions that is answered no.
+    fn read(self, key: Option<[u8; 16]>, body: &[u8]) -> Result<Request<'_>, FrameFault>
+        ensures { ReadAs (ordered_if (Some self) key body.now) result }
+    {
+        let misfit = FrameFault::FrameLength(1 + body.len());
+        match self {
+            Kind::Key => {
+                let key = body.as_array().ok_or(misfit)?;
+                Ok(Request::TakeKey(*key))
+            }
+            Kind::Cipher => {
+                let [byte] = body.as_array::<1>().ok_or(misfit)?;
+                Ok(Request::Choose(CipherName::try_from(*byte)?))
+            }
+            Kind::Seal(variant) => {
+                let parts = cut(body).ok_or(misfit)?;
+                let key = key.ok_or(FrameFault::NoKey)?;
+                Ok(Request::Seal(variant, key, parts))
+            }
+            Kind::Open(variant) => {
+                let sealed = cut_sealed(body).ok_or(misfit)?;
+                let key = key.ok_or(FrameFault::NoKey)?;
+                Ok(Request::Open(variant, key, sealed))
+            }
+            Kind::Hash => Ok(Request::Hash(body)),
         }
-        Kind::Cipher => {
-            let [byte] = body else {
-                return Err(misfit);
-            };
-            let Some(cipher) = cipher_of(*byte) else {
-                return Err(FrameFault::UnknownCipher);
-            };
-            Ok(Request::Choose(cipher))
-        }
-        Kind::Seal(variant) => {
-            let Some(parts) = cut(body) else {
-                return Err(misfit);
-            };
-            let Some(key) = key else {
-                return Err(FrameFault::NoKey);
-            };
-            Ok(Request::Seal(variant, key, parts))
-        }
-        Kind::Open(variant) => {
-            let Some(sealed) = cut_sealed(body) else {
-                return Err(misfit);
-            };
-            let Some(key) = key else {
-                return Err(FrameFault::NoKey);
-            };
-            Ok(Request::Open(variant, key, sealed))
-        }
-        Kind::Hash => Ok(Request::Hash(body)),
     }
 }
 
@@ -233,11 +178,6 @@ fn read_body<'a>(
 pub(crate) fn read(key: Option<[u8; 16]>, frame: &[u8]) -> Result<Request<'_>, FrameFault>
     ensures { ReadAs (order_of key frame.now) result }
 {
-    let [letter, body @ ..] = frame else {
-        return Err(FrameFault::UnknownLetter);
-    };
-    let Some(kind) = kind_of(*letter) else {
-        return Err(FrameFault::UnknownLetter);
-    };
-    read_body(kind, key, body, FrameFault::FrameLength(frame.len()))
+    let (letter, body) = frame.split_first().ok_or(FrameFault::UnknownLetter)?;
+    Kind::try_from(*letter)?.read(key, body)
 }

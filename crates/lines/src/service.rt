@@ -1,34 +1,38 @@
 //! What a request gives: a sealed frame, a message, a digest.
-ghost use Rattle.std.specs.Prelude.{◌≡◌, ◌+◌, ◌≤◌, length, IfOk};
+ghost use Rattle.std.specs.Prelude.{◌≡◌, ◌+◌, ◌≤◌, length};
 ghost use Rattle.mode.specs.Mode.{SealsTo, Opened};
 ghost use Rattle.romulus_h.specs.Hash.{digest_of};
 ghost use Rattle.any_cipher.specs.AnyCipher.{any_answer};
-ghost use Rattle.hex_lines.specs.Buffers.{contents};
 ghost use Rattle.lines.specs.Requests.{mode_reply};
-ghost use Rattle.lines.specs.Services.{scheme_of, letter_of, cipher_answer, length_bytes, sealed_frame, Opens};
+ghost use Rattle.lines.specs.Services.{scheme_of, letter_of, cipher_answer, sealed_frame, Opens};
 
 use crate::frame::{CipherName, Parts, Sealed, Variant};
 use any_cipher::AnyCipher;
-use cipher::Cipher;
+use cipher::{Cipher, Counted};
 use hex_lines::buffer::Buffer;
+use hex_lines::fault::two_bytes;
 use mode::Mode;
 use refusals::Refusal;
 use romulus_h::{Digest, Hasher};
 use romulus_m::RomulusM;
 use romulus_n::RomulusN;
 use romulus_t::RomulusT;
-use skinny::Rounds;
+
+/// The most bytes of a frame: a line has two digits for each.
+pub(crate) const FRAME: usize = 4096;
+
+/// What a request gives: at most a sealed frame whose message came in the longest frame, 16 bytes of tag more.
+pub(crate) type Reply = Buffer<4112>;
 
 impl CipherName {
     /// The cipher that has this name, never called.
-    pub(crate) fn make(self) -> AnyCipher
-        ensures { any_answer result ≡ cipher_answer self }
+    pub(crate) fn make(self) -> Counted<AnyCipher>
+        ensures { any_answer result.cipher ≡ cipher_answer self }
     {
-        match self {
-            CipherName::Skinny40 => AnyCipher::skinny(Rounds::Forty),
-            CipherName::Skinny56 => AnyCipher::skinny(Rounds::FiftySix),
+        Counted::new(match self {
+            CipherName::Skinny(rounds) => AnyCipher::skinny(rounds),
             CipherName::StandIn => AnyCipher::stand_in(),
-        }
+        })
     }
 }
 
@@ -43,6 +47,8 @@ impl Variant {
             Variant::RomulusT => b'T',
         }
     }
+
+    // A mode is generic in the cipher, so that there is no `dyn Mode` to choose once for sealing and opening.
 
     // Seals a text in its place by this mode, and returns the tag.
     fn seal<C: Cipher>(
@@ -82,33 +88,22 @@ impl Variant {
     }
 }
 
-// A length in two bytes, the highest first.
-fn length_bytes(len: usize) -> [u8; 2]
-    ensures { result ≡ length_bytes len }
-{
-    [(len / 256 % 256) as u8, (len % 256) as u8]
-}
-
-// A sealed frame, put together.
-fn put_together(
-    variant: Variant,
-    nonce: &[u8; 16],
-    ad: &[u8],
-    text: &[u8],
-    tag: &[u8; 16],
-) -> Buffer
-    requires { length ad.now + length text.now ≤ 4077 }
-    ensures frame { contents result ≡ sealed_frame variant nonce.now ad.now (text.now, tag.now) }
-    ensures short { length (contents result) ≤ 4112 }
-{
-    let mut frame = Buffer::new();
-    frame.push(variant.letter());
-    frame.extend(nonce);
-    frame.extend(&length_bytes(ad.len()));
-    frame.extend(ad);
-    frame.extend(text);
-    frame.extend(tag);
-    frame
+impl Sealed<'_> {
+    // The frame of these parts, sealed by a mode.
+    fn frame(&self, variant: Variant) -> Reply
+        requires { length self.now.parts.ad.now + length self.now.parts.text.now ≤ 4077 }
+        ensures { result ≡ sealed_frame variant self.now.parts.nonce self.now.parts.ad.now (self.now.parts.text.now, self.now.tag) }
+    {
+        let Parts { nonce, ad, text } = self.parts;
+        let mut frame = Buffer::new();
+        frame.push(variant.letter());
+        frame.extend(&nonce);
+        frame.extend(&two_bytes(ad.len()));
+        frame.extend(ad);
+        frame.extend(text);
+        frame.extend(&self.tag);
+        frame
+    }
 }
 
 /// The frame that a message seals to.
@@ -117,21 +112,22 @@ pub(crate) fn seal_frame<C: Cipher>(
     variant: Variant,
     key: &[u8; 16],
     parts: Parts<'_>,
-) -> Buffer
+) -> Reply
     requires { length parts.ad.now + length parts.text.now ≤ 4077 }
-    ensures frame { contents result ≡ sealed_frame variant parts.entry.nonce parts.entry.ad.now ((scheme_of variant).frame (C.answer cipher.old) key.now parts.entry.nonce parts.entry.ad.now parts.entry.text.now) }
-    ensures short { length (contents result) ≤ 4112 }
+    ensures { result ≡ sealed_frame variant parts.entry.nonce parts.entry.ad.now ((scheme_of variant).frame (C.answer cipher.old) key.now parts.entry.nonce parts.entry.ad.now parts.entry.text.now) }
 {
     let Parts {
         nonce,
         ad,
         text: message,
     } = parts;
-    let mut room = [0; 4096];
-    let text = &mut room[0..message.len()];
+    // An array, since a `Buffer` that lends its bytes would have to show its zeros whatever is left in the whole room.
+    let mut room = [0; FRAME];
+    let text = &mut room[..message.len()];
     text.copy_from_slice(message);
     let tag = variant.seal(cipher, key, &nonce, ad, text);
-    put_together(variant, &nonce, ad, text, &tag)
+    let parts = Parts { nonce, ad, text };
+    Sealed { parts, tag }.frame(variant)
 }
 
 /// The message that seals to a frame, or the refusal of a frame that is wrong.
@@ -140,15 +136,14 @@ pub(crate) fn open_frame<C: Cipher>(
     variant: Variant,
     key: &[u8; 16],
     sealed: Sealed<'_>,
-) -> Result<Buffer, Refusal>
+) -> Result<Reply, Refusal>
     requires { length sealed.parts.text.now ≤ 4096 }
-    ensures opens { Opens (scheme_of variant) (C.answer cipher.old) key.now sealed.entry.parts.nonce sealed.entry.parts.ad.now sealed.entry.parts.text.now sealed.entry.tag (mode_reply result) }
-    ensures short { IfOk result (λ b. length (contents b) ≤ 4112) }
+    ensures { Opens (scheme_of variant) (C.answer cipher.old) key.now sealed.entry.parts.nonce sealed.entry.parts.ad.now sealed.entry.parts.text.now sealed.entry.tag (mode_reply result) }
 {
     let Sealed { parts, tag } = sealed;
     let Parts { nonce, ad, text } = parts;
-    let mut room = [0; 4096];
-    let message = &mut room[0..text.len()];
+    let mut room = [0; FRAME];
+    let message = &mut room[..text.len()];
     message.copy_from_slice(text);
     if !variant.open(cipher, key, &nonce, ad, message, &tag) {
         return Err(Refusal::WrongFrame);
@@ -159,9 +154,8 @@ pub(crate) fn open_frame<C: Cipher>(
 }
 
 /// The digest of a text.
-pub(crate) fn digest<C: Cipher>(cipher: &mut C, text: &[u8]) -> Buffer
-    ensures digest { contents result ≡ digest_of (C.answer cipher.old) text.now }
-    ensures short { length (contents result) ≤ 4112 }
+pub(crate) fn digest<C: Cipher>(cipher: &mut C, text: &[u8]) -> Reply
+    ensures { result ≡ digest_of (C.answer cipher.old) text.now }
 {
     let Digest { left, right } = Hasher::new().finish(cipher, text);
     let mut result = Buffer::new();

@@ -1,19 +1,22 @@
 //! A session: the key and the cipher held from line to line, and the answer to each line.
-ghost use Rattle.std.specs.Prelude.{◌≡◌, ◌≤◌, length, IfOk};
-ghost use Rattle.hex_lines.specs.Buffers.{contents, Wiped};
-ghost use Rattle.lines.specs.Requests.{meaning, Small, mode_reply, line_reply, Replied};
+ghost use Rattle.std.specs.Prelude.{◌≡◌, []};
+ghost use Rattle.lines.specs.Requests.{meaning, Small, mode_reply, Replied};
 ghost use Rattle.lines.specs.KeyLines.{line_after};
 ghost use Rattle.lines.specs.Services.{cipher_answer};
-ghost use Rattle.lines.specs.Sessions.{Gives, after, line_order, Tells, held_after, written, Spelled, Answered};
+ghost use Rattle.lines.specs.Sessions.{Gives, after, written, Spelled, Answered};
 ghost use Rattle.lines.specs.Laws.{at_first, Lawful, RunLaws};
 
 use crate::frame::{CipherName, Request, read};
 use crate::key_line::{KeyLine, is_key_line};
-use crate::service::{digest, open_frame, seal_frame};
+use crate::service::{FRAME, Reply, digest, open_frame, seal_frame};
 use hex_lines::buffer::Buffer;
 use hex_lines::fault::Fault;
 use hex_lines::{decode, encode};
 use refusals::Refusal;
+use skinny::Rounds;
+
+/// An answer line: `00`, and two digits for each byte of a reply.
+pub type Answer = Buffer<8226>;
 
 /// What a session holds from line to line: the key, once one was taken, and the cipher.
 #[derive(Clone, Copy)]
@@ -24,11 +27,10 @@ pub struct Held {
 
 impl Held {
     // Does what a request asks for, and gives the result.
-    fn serve(&mut self, request: Request<'_>) -> Result<Buffer, Refusal>
+    fn serve(&mut self, request: Request<'_>) -> Result<Reply, Refusal>
         requires { Small (meaning request) }
         ensures gives { Gives (cipher_answer self.old.cipher) (meaning request.entry) (mode_reply result) }
         ensures after { self.new ≡ after self.old (meaning request.entry) }
-        ensures short { IfOk result (λ b. length (contents b) ≤ 4112) }
     {
         let mut cipher = self.cipher.make();
         match request {
@@ -48,10 +50,9 @@ impl Held {
 }
 
 // The answer line of a reply: 00 and the result in small digits, or the report of the fault.
-fn write_answer(reply: Result<Buffer, Fault>) -> Buffer
-    requires { IfOk reply (λ b. length (contents b) ≤ 4112) }
-    ensures text { contents result ≡ written (line_reply reply) }
-    ensures back { Spelled (line_reply reply) }
+fn write_answer(reply: Result<Reply, Fault>) -> Answer
+    ensures text { result ≡ written reply }
+    ensures back { Spelled reply }
 {
     let mut text = Buffer::new();
     match reply {
@@ -68,7 +69,7 @@ fn write_answer(reply: Result<Buffer, Fault>) -> Buffer
 #[derive(Drop)]
 pub struct Session {
     held: Held,
-    frame: Buffer,
+    frame: Buffer<FRAME>,
 }
 
 impl Session {
@@ -76,34 +77,31 @@ impl Session {
     pub fn new() -> Self
         ensures fresh { result.held ≡ at_first }
         ensures runs { RunLaws result.held }
-        ensures wiped { Wiped result.frame }
+        ensures wiped { result.frame ≡ [] }
     {
         Session {
             held: Held {
                 key: None,
-                cipher: CipherName::Skinny40,
+                cipher: CipherName::Skinny(Rounds::Forty),
             },
             frame: Buffer::new(),
         }
     }
 
     // The reply to a line: hexadecimal digits, then a frame, then what the frame asks for.
-    fn reply(&mut self, line: &[u8]) -> Result<Buffer, Fault>
-        ensures tells { Tells (cipher_answer self.old.held.cipher) (line_order self.old.held line.now) (line_reply result) }
-        ensures after { self.new.held ≡ held_after self.old.held (line_order self.old.held line.now) }
-        ensures short { IfOk result (λ b. length (contents b) ≤ 4112) }
+    fn reply(&mut self, line: &[u8]) -> Result<Reply, Fault>
+        ensures { Replied self.old.held line.now result self.new.held }
     {
         decode(line, &mut self.frame)?;
         let request = read(self.held.key, self.frame.as_slice())?;
-        let result = self.held.serve(request)?;
-        Ok(result)
+        Ok(self.held.serve(request)?)
     }
 
     // The reply to a line that leaves no key behind: a key line is cleared, however reading it ends, and so is the frame that it spelled.
-    fn reply_and_clear(&mut self, line: &mut [u8]) -> Result<Buffer, Fault>
+    fn reply_and_clear(&mut self, line: &mut [u8]) -> Result<Reply, Fault>
         ensures replied { Replied self.old.held line.old result self.new.held }
         ensures cleared { line.new ≡ line_after line.old }
-        ensures wiped { Wiped self.new.frame }
+        ensures wiped { self.new.frame ≡ [] }
     {
         let reply = if is_key_line(line) {
             let holder = KeyLine::hold(line);
@@ -111,15 +109,15 @@ impl Session {
         } else {
             self.reply(line)
         };
-        self.frame.wipe();
+        self.frame.clear();
         reply
     }
 
     /// Answers a line. A key line is zeros afterwards, and any other is as it was; the frame's bytes are cleared.
-    pub fn answer(&mut self, line: &mut [u8]) -> Buffer
-        ensures answered { Answered self.old.held line.old (contents result) self.new.held line.new }
-        ensures lawful { Lawful self.old.held line.old (contents result) self.new.held }
-        ensures wiped { Wiped self.new.frame }
+    pub fn answer(&mut self, line: &mut [u8]) -> Answer
+        ensures answered { Answered self.old.held line.old result self.new.held line.new }
+        ensures lawful { Lawful self.old.held line.old result self.new.held }
+        ensures wiped { self.new.frame ≡ [] }
     {
         write_answer(self.reply_and_clear(line))
     }

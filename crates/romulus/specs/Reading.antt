@@ -1,16 +1,11 @@
 -- Lines, as they are taken from what was read.
-use Rattle.std.specs.Prelude.{◌≡◌, ℕ, ◌+◌, ◌-◌, Bool, cond, List, [], ◌∷◌, ◌++◌, length, take, drop, Ok, Err, Result, ◌==◌, nat_lt}
+use Rattle.std.specs.Prelude.{◌≡◌, ℕ, ◌+◌, ◌-◌, Bool, List, [], ◌++◌, length, take, drop, Ok, Err, Result, ◌==◌, nat_lt}
+use Rattle.std.specs.List.{before_first}
 use Rattle.std.specs.declared.alloc.AllocError.{AllocError}
-use Rattle.romulus.specs.declared.ahead.Ahead.{Ahead}
-
--- What was read and not yet handed on: the bytes from at to end.
-abbrev pub waiting : Ahead → List ℕ
-waiting a = take (a.end - a.at) (drop a.at a.bytes)
 
 -- The characters before the first newline, or all where there is none: of a, b, newline, c it is a, b.
 abbrev pub first_line : List ℕ → List ℕ
-first_line [] = []
-first_line (c ∷ cs) = cond (c == 0x0a) [] (c ∷ first_line cs)
+first_line bytes = before_first (λ c. c == 0x0a) bytes
 
 -- Something is waiting, or the input has ended and nothing is; after an error nothing is.
 abbrev pub Filled : {E : Type 0} → Result Bool E → (ahead : List ℕ) → Type 0

@@ -1,7 +1,7 @@
 //! The line program: reads lines from standard input, and prints the answer to each.
 #![tactic(auto)]
 
-ghost use Rattle.std.specs.Prelude.{◌≤◌, length};
+ghost use Rattle.std.specs.Prelude.{◌≤◌, length, IfOk, IfSome};
 
 mod ahead;
 
@@ -10,22 +10,24 @@ use lines::session::Session;
 use std::io;
 use std::io::{BufWriter, Stdin, Write};
 
-// Reads the next line, without its newline. Of a line that is too long just enough is kept to tell. False: the input has ended.
-fn next_line(input: &mut Stdin, ahead: &mut Ahead, line: &mut Vec<u8>) -> io::Result<bool>
-    ensures { length line.new.items ≤ 8193 }
+// Reads the next line, without its newline, or none once the input has ended. Of a line that is too long just enough is kept to tell.
+fn next_line<'a>(
+    input: &mut Stdin,
+    ahead: &mut Ahead,
+    line: &'a mut Vec<u8>,
+) -> io::Result<Option<&'a mut [u8]>>
+    ensures { IfOk result (λ next. IfSome next (λ l. length l.now ≤ 8193)) }
 {
     line.clear();
-    let mut any = false;
+    if !ahead.fill(input)? {
+        return Ok(None);
+    }
     for _ in 0..u64::MAX {
-        if !ahead.fill(input)? {
-            break;
-        }
-        any = true;
-        if ahead.take(line)? {
+        if ahead.take(line)? || !ahead.fill(input)? {
             break;
         }
     }
-    Ok(any)
+    Ok(Some(line.as_mut_slice()))
 }
 
 // Answers each line as it comes, until the input ends.
@@ -36,10 +38,10 @@ fn serve(rt: &HostRuntime) -> anyhow::Result<()> {
     let mut session = Session::new();
     let mut line = Vec::with_capacity(rt.alloc(), KEPT)?;
     for _ in 0..u64::MAX {
-        if !next_line(&mut input, &mut ahead, &mut line)? {
+        let Some(next) = next_line(&mut input, &mut ahead, &mut line)? else {
             break;
-        }
-        let answer = session.answer(line.as_mut_slice());
+        };
+        let answer = session.answer(next);
         output.write_all(answer.as_slice())?;
         output.write_all(b"\n")?;
         output.flush()?;

@@ -1,18 +1,16 @@
-use Rattle.std.proofs.Common.{◌≡◌, ◌+◌, ◌-◌, ◌++◌, length, take, sym, ap, ◌∙◌, arith}
-use Rattle.std.proofs.lemmas.List.{length-take-le}
-use Rattle.std.proofs.lemmas.Slice.{take-put_mid}
-use Rattle.hex_lines.proofs.Fills.{take_room, take_behind}
+use Rattle.std.proofs.Common.{◌++◌, take, ap, ◌∙◌, arith}
+use Rattle.hex_lines.proofs.Fills.{extend_fits, extend_zeros}
 use Rattle.hex_lines.proofs.buffer.Buffer.extend.Goals as goal
 
+pub invariant_of-self : goal.invariant_of-self
+invariant_of-self g c =
+    let b = c.self.inside in (
+      omega arith,
+      extend_zeros g.row.ROOM b.bytes b.len (omega arith) c.self.invariant.0 c.self.invariant.1 c.min-n.result _ c.args.more.now _ (omega arith) (omega arith) c.copy_from_slice.ensures.after,
+    )
+
 pub returns : goal.returns
-returns c =
-    let len = c.args.self.now.len in
-    let bytes = c.args.self.now.bytes in
-    let more = c.args.more.now in
-    let n = c.min-n.result in
-    let long : length (take len bytes) ≡ len = length-take-le len bytes (omega arith) in
-    let whole : n - 0 ≡ n = omega arith in
-    let cut : take n more ≡ take (8226 - length (take len bytes)) more = take_room more n (8226 - length (take len bytes)) (omega arith) in
-    take-put_mid len (len + n - len) bytes c.copy_from_slice.new.self (len + n) (omega arith) (omega arith)
-    ∙ ap (λ p. take len bytes ++ p) (c.copy_from_slice.ensures.after ∙ ap (λ k. take k more) whole ∙ cut)
-    ∙ sym (take_behind 8226 (take len bytes) more (omega arith))
+returns g c =
+    let b = c.self.inside in
+    extend_fits g.row.ROOM b.bytes b.len (omega arith) c.self.invariant.0 c.self.invariant.1 c.min-n.result _ c.args.more.now _ (omega arith) (omega arith) c.copy_from_slice.ensures.after
+    ∙ ap (λ l. take g.row.ROOM (l ++ c.args.more.now)) c.self.view_is

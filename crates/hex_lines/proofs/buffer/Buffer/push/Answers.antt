@@ -1,9 +1,8 @@
 use Rattle.std.proofs.Common.{arith}
-use Rattle.hex_lines.proofs.Fills.{push_fits, push_full}
+use Rattle.hex_lines.proofs.Fills.{push_zeros}
 use Rattle.hex_lines.proofs.buffer.Buffer.push.Goals as goal
 
-pub returns-then-self-lt-ROOM : goal.returns-then-self-lt-ROOM
-returns-then-self-lt-ROOM c = push_fits 8226 c.args.self.now.bytes c.args.self.now.len c.args.byte (omega arith) (omega arith)
-
-pub returns-else-self-lt-ROOM : goal.returns-else-self-lt-ROOM
-returns-else-self-lt-ROOM c = push_full 8226 c.args.self.now.bytes c.args.self.now.len c.args.byte (omega arith) (omega arith)
+pub invariant_of-self : goal.invariant_of-self
+invariant_of-self g c =
+    let b = c.self.inside in
+    (omega arith, push_zeros g.row.ROOM b.bytes b.len (omega arith) c.self.invariant.0 c.self.invariant.1 c.args.byte (omega arith))

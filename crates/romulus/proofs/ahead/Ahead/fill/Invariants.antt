@@ -1,5 +1,6 @@
-use Rattle.std.proofs.Common.{◌≡◌}
+use Rattle.std.proofs.Common.{◌≡◌, []}
+use Rattle.romulus.specs.Waiting.{waiting, Cleared}
 use Rattle.romulus.proofs.ahead.Ahead.fill.Given as goal
 
 abbrev pub invariant-loop : goal.invariant-loop
-invariant-loop g l = (l.self.at ≡ 0) × (l.self.end ≡ 0)
+invariant-loop g l = Cleared l.self-inside × (waiting l.self-inside ≡ [])
