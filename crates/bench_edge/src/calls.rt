@@ -1,20 +1,16 @@
-// Single calls of the cipher.
+// Single calls of the cipher; two exports, since C has no generics.
 ghost use Rattle.std.specs.Prelude.{◌≡◌};
 ghost use Rattle.skinny.specs.RoundCount.{round_count};
 ghost use Rattle.bench_edge.specs.Calls.{enciphered};
 
-use cipher::Cipher;
+use cipher::BlockCipher;
 use skinny::{Rounds, Skinny};
 
 fn encipher(rounds: Rounds, tweakey: &[u8], block: &mut [u8])
     ensures { block.new ≡ enciphered (round_count rounds) tweakey.now block.old }
 {
-    if tweakey.len() == 48 && block.len() == 16 {
-        let mut t = [0; 48];
-        t.copy_from_slice(tweakey);
-        let mut b = [0; 16];
-        b.copy_from_slice(block);
-        block.copy_from_slice(&Skinny::new(rounds).encrypt(&t, &b));
+    if let (Ok(tweakey), Ok(whole)) = (tweakey.try_into(), (&*block).try_into()) {
+        block.copy_from_slice(&Skinny::new(rounds).encrypt_block(&tweakey, &whole));
     }
 }
 

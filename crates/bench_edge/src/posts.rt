@@ -5,10 +5,11 @@ ghost use Rattle.post.specs.Post.{standing_of};
 ghost use Rattle.romulus_n.specs.ModeN.{n_scheme};
 ghost use Rattle.bench_edge.specs.Posts.{SealedOver, between, making};
 
-use cipher::Cipher;
+use cipher::{Cipher, Counted};
 use mode::Mode;
 use nonces::{Counting, NonceSource};
 use post::Post;
+use promise::MOST_ALLOWANCE;
 use romulus_n::RomulusN;
 use skinny::{Rounds, Skinny};
 
@@ -51,7 +52,13 @@ pub extern "C" fn bench_edge_post(
     let Ok(source) = Counting::new(b"the desk", 0, answers.len() as u64) else {
         return 0;
     };
-    match Post::new(RomulusN, Skinny::new(Rounds::Forty), source, key, 1 << 40) {
+    match Post::new(
+        RomulusN,
+        Counted::new(Skinny::new(Rounds::Forty)),
+        source,
+        key,
+        MOST_ALLOWANCE,
+    ) {
         Err(_) => 0,
         Ok(mut post) => {
             seal_over(&mut post, ad, message, out, tag, answers);

@@ -4,12 +4,14 @@ ghost use Rattle.skinny.specs.Skinny.{skinny as skinny_of};
 ghost use Rattle.skinny.specs.RoundCount.{round_count};
 ghost use Rattle.romulus_c.specs.Told.{told as told_of, SealTold, OpenTold, HashTold};
 
+use cipher::Counted;
 use mode::{Mode, Outcome};
 use refusals::answer_number;
 use romulus_h::hash;
 use skinny::{Rounds, Skinny};
 
 /// What a seal or an opening answers: 0 or the refusal's number, and the cost in calls of the cipher.
+// a number in place of the enum, since C reads it
 #[repr(C)]
 #[derive(Clone, Copy)]
 pub struct RomulusAnswer {
@@ -17,12 +19,14 @@ pub struct RomulusAnswer {
     pub cost: u64,
 }
 
-fn told(outcome: &Outcome) -> RomulusAnswer
-    ensures { result ≡ told_of outcome.now }
-{
-    RomulusAnswer {
-        number: outcome.number() as u32,
-        cost: outcome.cost,
+impl From<Outcome<()>> for RomulusAnswer {
+    ghost from_gives = { λ o r. r ≡ told_of o };
+
+    fn from(outcome: Outcome<()>) -> RomulusAnswer {
+        RomulusAnswer {
+            number: outcome.number() as u32,
+            cost: outcome.cost,
+        }
     }
 }
 
@@ -39,8 +43,9 @@ pub(crate) fn seal<M: Mode>(
 ) -> RomulusAnswer
     ensures { SealTold M.scheme (skinny_of (round_count rounds)) key.now nonce.now ad.now message.now out.old tag.old result out.new tag.new }
 {
-    let mut cipher = Skinny::new(rounds);
-    told(&mode.seal(&mut cipher, key, nonce, ad, message, out, tag))
+    let mut cipher = Counted::new(Skinny::new(rounds));
+    mode.seal(&mut cipher, key, nonce, ad, message, out, tag)
+        .into()
 }
 
 // An opening in any mode, on a cipher of its own.
@@ -56,14 +61,15 @@ pub(crate) fn open<M: Mode>(
 ) -> RomulusAnswer
     ensures { OpenTold M.scheme (skinny_of (round_count rounds)) key.now nonce.now ad.now text.now tag.now out.old result out.new }
 {
-    let mut cipher = Skinny::new(rounds);
-    told(&mode.open(&mut cipher, key, nonce, ad, text, tag, out))
+    let mut cipher = Counted::new(Skinny::new(rounds));
+    mode.open(&mut cipher, key, nonce, ad, text, tag, out)
+        .into()
 }
 
 // A hash on a cipher of its own.
 pub(crate) fn digest_into(rounds: Rounds, input: &[u8], digest: &mut [u8]) -> u32
     ensures { HashTold (skinny_of (round_count rounds)) input.now digest.old result digest.new }
 {
-    let mut cipher = Skinny::new(rounds);
-    answer_number(hash(&mut cipher, input, digest)) as u32
+    let mut cipher = Counted::new(Skinny::new(rounds));
+    answer_number(&hash(&mut cipher, input, digest)) as u32
 }

@@ -1,4 +1,4 @@
-// The exported direct calls. Each is one mode on one cipher.
+// The exported direct calls. Each is one mode on one cipher, and stands by itself, since C has no generics.
 ghost use Rattle.skinny.specs.Skinny.{skinny as skinny_of};
 ghost use Rattle.romulus_m.specs.ModeM.{m_scheme};
 ghost use Rattle.romulus_n.specs.ModeN.{n_scheme};

@@ -4,18 +4,21 @@ ghost use Rattle.refusals.specs.Refusals.{first_no};
 ghost use Rattle.skinny.specs.RoundCount.{round_count};
 ghost use Rattle.promise.specs.Calls.{Seal, Open};
 ghost use Rattle.post.specs.Post.{standing_of as post_standing};
-ghost use Rattle.romulus_c.specs.Kept.{known as is_known, kept_questions, reply as reply_of, Carried};
-ghost use Rattle.romulus_c.specs.Carry.{loaded, answer_of, count_of, pending_of, after, Room, told as told_of};
+ghost use Rattle.romulus_c.specs.Kept.{kept_questions, unread, reply as reply_of, Carried};
+ghost use Rattle.romulus_c.specs.Carry.{Named, Asked, loaded, answer_of, count_of, pending_of, after, Room, sealed as sealed_of, opened as opened_of};
 
-use mode::Mode;
+use cipher::Counted;
+use mode::{Mode, Outcome};
 use nonces::Counting;
-use post::{Outcome, Post, Reading, Retired};
+use post::{Post, Reading, Retired};
+use promise::MOST_ALLOWANCE;
 use refusals::Refusal;
 use skinny::{Rounds, Skinny};
 
 /// A post that a C host keeps. Nothing in it is trusted: each call asks the questions of a making again.
+// numbers for mode and rounds, here and in the answers below, since they lie in the host's memory
 #[repr(C)]
-#[derive(Clone, Copy)]
+#[derive(Clone, Copy, Default)]
 pub struct RomulusPost {
     /// The mode's letter: 78 is N, 77 is M, 84 is T. With any other no key is held.
     pub mode: u32,
@@ -52,7 +55,7 @@ pub struct RomulusPostAnswer {
 
 /// What reading out tells: 0 or the refusal's number, the allowance left, and how many seals and openings were taken and how many frames were wrong.
 #[repr(C)]
-#[derive(Clone, Copy)]
+#[derive(Clone, Copy, Default)]
 pub struct RomulusReading {
     pub number: u32,
     pub left: u64,
@@ -61,26 +64,31 @@ pub struct RomulusReading {
     pub wrong: u64,
 }
 
-// The letters of the modes.
-pub(crate) const MODE_N: u32 = 78;
-
-pub(crate) const MODE_M: u32 = 77;
-
-const MODE_T: u32 = 84;
-
-// The largest allowance.
-pub(crate) const MOST_CALLS: u64 = 1 << 40;
-
-// Whether the library has such a mode and such rounds.
-pub(crate) fn known(mode: u32, rounds: u32) -> bool
-    ensures { result ≡ is_known mode rounds }
-{
-    (mode == MODE_N || mode == MODE_M || mode == MODE_T) && (rounds == 40 || rounds == 56)
+// The mode of a post, as its letter's code.
+#[derive(Clone, Copy)]
+pub(crate) enum Letter {
+    N = 78,
+    M = 77,
+    T = 84,
 }
 
-// The first question on what is kept that is answered no.
-pub(crate) fn ask(post: &RomulusPost) -> Option<Refusal>
-    ensures { result ≡ first_no (kept_questions post.now) }
+// The mode and the rounds that two numbers name. Where there is none of that name, no key is held.
+pub(crate) fn named(mode: u32, rounds: u32) -> Result<(Letter, Rounds), Refusal>
+    ensures { Named mode rounds result }
+{
+    let letter = match mode {
+        78 => Letter::N,
+        77 => Letter::M,
+        84 => Letter::T,
+        _ => return Err(Refusal::KeyLength),
+    };
+    let rounds = Rounds::try_from(rounds).map_err(|_| Refusal::KeyLength)?;
+    Ok((letter, rounds))
+}
+
+// The first question on what is kept that is answered no; where there is none, its mode and rounds.
+pub(crate) fn ask(post: &RomulusPost) -> Result<(Letter, Rounds), Refusal>
+    ensures { Asked post.now result }
 {
     let RomulusPost {
         mode,
@@ -94,38 +102,36 @@ pub(crate) fn ask(post: &RomulusPost) -> Option<Refusal>
         wrong,
         ..
     } = *post;
-    if amount > u64::MAX - count {
-        Some(Refusal::CountRange)
-    } else if !known(mode, rounds) {
-        Some(Refusal::KeyLength)
-    } else if calls > MOST_CALLS || left > MOST_CALLS - calls {
-        Some(Refusal::AllowanceSize)
-    } else if sealed > calls || opened > calls - sealed || wrong > calls - sealed - opened {
-        Some(Refusal::AllowanceSize)
-    } else {
-        None
+    count.checked_add(amount).ok_or(Refusal::CountRange)?;
+    let named = named(mode, rounds)?;
+    if calls > MOST_ALLOWANCE || left > MOST_ALLOWANCE - calls {
+        return Err(Refusal::AllowanceSize);
     }
-}
-
-// The rounds of a post that stands every question.
-pub(crate) fn rounds_of(post: &RomulusPost) -> Rounds
-    requires { first_no (kept_questions post.now) ≡ None }
-    ensures { round_count result ≡ post.now.rounds }
-{
-    match post.rounds {
-        40 => Rounds::Forty,
-        _ => Rounds::FiftySix,
+    if sealed > calls || opened > calls - sealed || wrong > calls - sealed - opened {
+        return Err(Refusal::AllowanceSize);
     }
+    Ok(named)
 }
 
 // The library's post over what is kept, with its allowance left and with counters of its own.
-fn load<M: Mode + Drop>(mode: M, rounds: Rounds, post: &RomulusPost) -> Post<M, Skinny, Counting>
+fn load<M: Mode + Drop>(
+    mode: M,
+    rounds: Rounds,
+    post: &RomulusPost,
+) -> Post<M, Counted<Skinny>, Counting>
     requires sound { first_no (kept_questions post.now) ≡ None }
     requires rounds { round_count rounds ≡ post.now.rounds }
     ensures { post_standing answer_of count_of pending_of result ≡ loaded post.now }
 {
     let source = Counting::new(&post.prefix.to_be_bytes(), post.count, post.amount).unwrap();
-    Post::new(mode, Skinny::new(rounds), source, &post.key, post.left).unwrap()
+    Post::new(
+        mode,
+        Counted::new(Skinny::new(rounds)),
+        source,
+        &post.key,
+        post.left,
+    )
+    .unwrap()
 }
 
 // What a call of that post changed, carried over to what is kept.
@@ -142,19 +148,46 @@ fn carry(post: &mut RomulusPost, reading: Reading, cost: u64)
     post.wrong += reading.wrong;
 }
 
-fn told(outcome: &Outcome) -> RomulusPostAnswer
-    ensures { result ≡ told_of outcome.now }
-{
-    let (nonce_high, nonce_low) = outcome.nonce;
-    RomulusPostAnswer {
-        number: outcome.number() as u32,
-        nonce_high,
-        nonce_low,
-        cost: outcome.cost,
+impl From<Outcome<(u64, u64)>> for RomulusPostAnswer {
+    ghost from_gives = { λ o r. r ≡ sealed_of o };
+
+    fn from(outcome: Outcome<(u64, u64)>) -> RomulusPostAnswer {
+        let (nonce_high, nonce_low) = outcome.answer.unwrap_or((0, 0));
+        RomulusPostAnswer {
+            number: outcome.number() as u32,
+            nonce_high,
+            nonce_low,
+            cost: outcome.cost,
+        }
     }
 }
 
-// A seal by a post of any mode.
+impl From<Outcome<()>> for RomulusPostAnswer {
+    ghost from_gives = { λ o r. r ≡ opened_of o };
+
+    fn from(outcome: Outcome<()>) -> RomulusPostAnswer {
+        RomulusPostAnswer {
+            number: outcome.number() as u32,
+            nonce_high: 0,
+            nonce_low: 0,
+            cost: outcome.cost,
+        }
+    }
+}
+
+impl From<Refusal> for RomulusReading {
+    ghost from_gives = { λ e r. r ≡ unread e };
+
+    fn from(refusal: Refusal) -> RomulusReading {
+        RomulusReading {
+            number: refusal.number() as u32,
+            ..RomulusReading::default()
+        }
+    }
+}
+
+// A seal by a post of any mode. It and the opening below are apart, since one function for both would take a closure whose clauses say
+// both contracts again.
 pub(crate) fn seal_by<M: Mode + Drop>(
     mode: M,
     rounds: Rounds,
@@ -172,7 +205,7 @@ pub(crate) fn seal_by<M: Mode + Drop>(
     let outcome = inner.seal(ad, message, out, tag);
     let Retired { reading, .. } = inner.retire();
     carry(post, reading, outcome.cost);
-    told(&outcome)
+    outcome.into()
 }
 
 // An opening by a post of any mode.
@@ -194,5 +227,5 @@ pub(crate) fn open_by<M: Mode + Drop>(
     let outcome = inner.open(nonce, ad, text, tag, out);
     let Retired { reading, .. } = inner.retire();
     carry(post, reading, outcome.cost);
-    told(&outcome)
+    outcome.into()
 }

@@ -1,16 +1,15 @@
 // The exported calls of a post that the host keeps.
 ghost use Rattle.std.specs.Prelude.{◌≡◌, [], ◌∷◌};
-ghost use Rattle.refusals.specs.Refusals.{first_no};
+ghost use Rattle.refusals.specs.Refusals.{first_no, after_asking};
 ghost use Rattle.promise.specs.Calls.{Seal, Open};
-ghost use Rattle.romulus_c.specs.Kept.{held as held_of, blank as blank_of, newly, all_questions, kept_questions, reply as reply_of, unread as unread_of, MakeTold, CallTold, ReadTold};
-ghost use Rattle.romulus_c.specs.Carry.{refused as refused_of};
+ghost use Rattle.romulus_c.specs.Kept.{held as held_of, blank as blank_of, newly, all_questions, kept_questions, reply as reply_of, MakeTold, CallTold, ReadTold};
 ghost use Rattle.romulus_c.specs.Promised.{EveryKeptRun, EveryTwoKeptRuns};
 
 use crate::kept::{
-    MODE_M, MODE_N, MOST_CALLS, RomulusPost, RomulusPostAnswer, RomulusReading, ask, known,
-    open_by, rounds_of, seal_by,
+    Letter, RomulusPost, RomulusPostAnswer, RomulusReading, ask, named, open_by, seal_by,
 };
-use mode::clear;
+use byte_blocks::block_of;
+use mode::{Outcome, clear};
 use refusals::Refusal;
 use romulus_m::RomulusM;
 use romulus_n::RomulusN;
@@ -19,19 +18,7 @@ use romulus_t::RomulusT;
 fn blank() -> RomulusPost
     ensures { result ≡ blank_of }
 {
-    RomulusPost {
-        mode: 0,
-        rounds: 0,
-        key: [0; 16],
-        prefix: 0,
-        count: 0,
-        amount: 0,
-        left: 0,
-        calls: 0,
-        sealed: 0,
-        opened: 0,
-        wrong: 0,
-    }
+    RomulusPost::default()
 }
 
 // The first question on a making that is answered no.
@@ -42,18 +29,16 @@ fn ask_making(
     first: u64,
     amount: u64,
     allowance: u64,
-) -> Option<Refusal>
-    ensures { result ≡ first_no (all_questions first amount (held_of mode rounds key.now) allowance) }
+) -> Result<(), Refusal>
+    ensures { result ≡ after_asking (first_no (all_questions first amount (held_of mode rounds key.now) allowance)) }
 {
-    if amount > u64::MAX - first {
-        Some(Refusal::CountRange)
-    } else if !known(mode, rounds) || key.len() != 16 {
-        Some(Refusal::KeyLength)
-    } else if allowance > MOST_CALLS {
-        Some(Refusal::AllowanceSize)
+    first.checked_add(amount).ok_or(Refusal::CountRange)?;
+    let held = if named(mode, rounds).is_ok() {
+        key
     } else {
-        None
-    }
+        &[]
+    };
+    promise::ask_making(held, allowance)
 }
 
 /// Makes a post with a counting source. A refused making leaves zeros in the post's place.
@@ -71,36 +56,20 @@ pub extern "C" fn romulus_c_post_make(
     ensures { MakeTold (newly mode rounds key.now prefix first amount allowance) (first_no (all_questions first amount (held_of mode rounds key.now) allowance)) result post.new }
 {
     *post = blank();
-    if let Some(refusal) = ask_making(mode, rounds, key, first, amount, allowance) {
+    if let Err(refusal) = ask_making(mode, rounds, key, first, amount, allowance) {
         return refusal.number() as u32;
     }
-    let mut held = [0; 16];
-    held.copy_from_slice(key);
     *post = RomulusPost {
         mode,
         rounds,
-        key: held,
+        key: block_of(key),
         prefix,
         count: first,
         amount,
         left: allowance,
-        calls: 0,
-        sealed: 0,
-        opened: 0,
-        wrong: 0,
+        ..blank()
     };
     0
-}
-
-fn refused(refusal: Refusal) -> RomulusPostAnswer
-    ensures { result ≡ refused_of refusal }
-{
-    RomulusPostAnswer {
-        number: refusal.number() as u32,
-        nonce_high: 0,
-        nonce_low: 0,
-        cost: 0,
-    }
 }
 
 /// Seals a message under the post's next nonce.
@@ -114,16 +83,15 @@ pub extern "C" fn romulus_c_post_seal(
 ) -> RomulusPostAnswer
     ensures { CallTold post.old (Seal ad.now message.now out.old tag.old) (first_no (kept_questions post.old)) (reply_of result (out.new ∷ tag.new ∷ [])) post.new }
 {
-    if let Some(refusal) = ask(post) {
-        clear(out);
-        clear(tag);
-        return refused(refusal);
-    }
-    let rounds = rounds_of(post);
-    match post.mode {
-        MODE_N => seal_by(RomulusN, rounds, post, ad, message, out, tag),
-        MODE_M => seal_by(RomulusM, rounds, post, ad, message, out, tag),
-        _ => seal_by(RomulusT, rounds, post, ad, message, out, tag),
+    match ask(post) {
+        Ok((Letter::N, rounds)) => seal_by(RomulusN, rounds, post, ad, message, out, tag),
+        Ok((Letter::M, rounds)) => seal_by(RomulusM, rounds, post, ad, message, out, tag),
+        Ok((Letter::T, rounds)) => seal_by(RomulusT, rounds, post, ad, message, out, tag),
+        Err(refusal) => {
+            clear(out);
+            clear(tag);
+            Outcome::<()>::refused(refusal).into()
+        }
     }
 }
 
@@ -139,27 +107,14 @@ pub extern "C" fn romulus_c_post_open(
 ) -> RomulusPostAnswer
     ensures { CallTold post.old (Open nonce.now ad.now text.now tag.now out.old) (first_no (kept_questions post.old)) (reply_of result (out.new ∷ [])) post.new }
 {
-    if let Some(refusal) = ask(post) {
-        clear(out);
-        return refused(refusal);
-    }
-    let rounds = rounds_of(post);
-    match post.mode {
-        MODE_N => open_by(RomulusN, rounds, post, nonce, ad, text, tag, out),
-        MODE_M => open_by(RomulusM, rounds, post, nonce, ad, text, tag, out),
-        _ => open_by(RomulusT, rounds, post, nonce, ad, text, tag, out),
-    }
-}
-
-fn unread(refusal: Refusal) -> RomulusReading
-    ensures { result ≡ unread_of refusal }
-{
-    RomulusReading {
-        number: refusal.number() as u32,
-        left: 0,
-        sealed: 0,
-        opened: 0,
-        wrong: 0,
+    match ask(post) {
+        Ok((Letter::N, rounds)) => open_by(RomulusN, rounds, post, nonce, ad, text, tag, out),
+        Ok((Letter::M, rounds)) => open_by(RomulusM, rounds, post, nonce, ad, text, tag, out),
+        Ok((Letter::T, rounds)) => open_by(RomulusT, rounds, post, nonce, ad, text, tag, out),
+        Err(refusal) => {
+            clear(out);
+            Outcome::<()>::refused(refusal).into()
+        }
     }
 }
 
@@ -169,8 +124,8 @@ pub extern "C" fn romulus_c_post_read(post: &RomulusPost) -> RomulusReading
     ensures { ReadTold post.now (first_no (kept_questions post.now)) result }
 {
     match ask(post) {
-        Some(refusal) => unread(refusal),
-        None => RomulusReading {
+        Err(refusal) => refusal.into(),
+        Ok(_) => RomulusReading {
             number: 0,
             left: post.left,
             sealed: post.sealed,
