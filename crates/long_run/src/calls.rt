@@ -2,30 +2,23 @@
 use crate::books::{Books, Expected};
 use crate::generator::Generator;
 use cipher::Cipher;
-use mode::{Mode, is_clear};
+use mode::{Mode, Outcome, is_clear};
 use nonces::{NonceSource, from_two_numbers};
-use post::{Outcome, Post};
+use post::Post;
+use refusals::Refusal;
 use std::alloc::{AllocError, Global};
 
-/// The frame that was sealed last.
+/// A frame, and the message that it was sealed from; before the first seal an empty frame that nobody sealed.
 #[derive(Drop)]
 struct Kept {
     nonce: [u8; 16],
     ad: Vec<u8>,
-    message: Vec<u8>,
     text: Vec<u8>,
     tag: Vec<u8>,
+    message: Option<Vec<u8>>,
 }
 
 impl Kept {
-    fn sealed(&self) -> bool {
-        !is_clear(&self.nonce)
-    }
-
-    fn holds(&self, message: &[u8]) -> bool {
-        self.message.as_slice() == message
-    }
-
     // Opens the frame, with a bit of its tag turned where it is not to be right, and with a nonce too short where that is asked.
     fn open_by<M: Mode, C: Cipher, S: NonceSource>(
         &self,
@@ -33,7 +26,7 @@ impl Kept {
         post: &mut Post<M, C, S>,
         right: bool,
         short: bool,
-    ) -> Result<(Outcome, Vec<u8>), AllocError> {
+    ) -> Result<(Outcome<()>, Vec<u8>), AllocError> {
         let mut tag = self.tag.clone()?;
         if !right {
             if let Some(b) = tag.last_mut() {
@@ -56,14 +49,14 @@ impl Kept {
     }
 }
 
-/// The lengths of a call, and the number that they alone give.
+/// The lengths of a call, and what they alone answer.
 #[derive(Clone, Copy)]
 struct Sizes {
     ad: usize,
     text: usize,
     out: usize,
     tag: usize,
-    number: u8,
+    answer: Result<(), Refusal>,
 }
 
 /// A mode, the books, the generator and the last frame.
@@ -82,28 +75,29 @@ fn pick_sizes(generator: &mut Generator, ad: usize, text: usize) -> Sizes {
         text,
         out: text,
         tag: 16,
-        number: 0,
+        answer: Ok(()),
     };
+    // a random choice
     match generator.below(32) {
         0 => Sizes {
             ad: 65_536,
-            number: 6,
+            answer: Err(Refusal::DataLength),
             ..lawful
         },
         1 => Sizes {
             text: 65_536,
             out: 65_536,
-            number: 7,
+            answer: Err(Refusal::TextLength),
             ..lawful
         },
         2 => Sizes {
             out: text.wrapping_add(1),
-            number: 8,
+            answer: Err(Refusal::OutputLength),
             ..lawful
         },
         3 => Sizes {
             tag: 15,
-            number: 9,
+            answer: Err(Refusal::TagLength),
             ..lawful
         },
         _ => lawful,
@@ -120,9 +114,9 @@ impl<M: Mode + Copy> Bench<M> {
         let kept = Kept {
             nonce: [0; 16],
             ad: vec![in heap]?,
-            message: vec![in heap]?,
             text: vec![in heap]?,
             tag: vec![in heap; 0; 16]?,
+            message: None,
         };
         Ok(Bench {
             mode,
@@ -132,18 +126,32 @@ impl<M: Mode + Copy> Bench<M> {
         })
     }
 
-    /// One call, of a kind that the generator picks.
-    pub(crate) fn call<C: Cipher, S: NonceSource>(
+    /// So many calls, or those until one fails.
+    pub(crate) fn calls<C: Cipher, S: NonceSource>(
+        &mut self,
+        heap: Global,
+        post: &mut Post<M, C, S>,
+        calls: u64,
+    ) -> Result<(), AllocError> {
+        for _ in 0..calls {
+            self.call(heap, post)?;
+        }
+        Ok(())
+    }
+
+    // One call, of a kind that the generator picks.
+    fn call<C: Cipher, S: NonceSource>(
         &mut self,
         heap: Global,
         post: &mut Post<M, C, S>,
     ) -> Result<(), AllocError> {
+        // a random choice
         match self.generator.below(8) {
             0 => {
                 self.books.compare(post.read_out());
                 Ok(())
             }
-            1 | 2 | 3 => self.open(heap, post),
+            1..=3 => self.open(heap, post),
             _ => self.seal(heap, post),
         }
     }
@@ -166,26 +174,24 @@ impl<M: Mode + Copy> Bench<M> {
             out.as_mut_slice(),
             tag.as_mut_slice(),
         );
-        self.books.seal(
-            Expected {
-                sizes: s.number,
-                costs: self.mode.costs(s.ad, s.text),
-            },
-            outcome,
-        );
-        if outcome.refusal.is_some() {
-            self.books.expect(
-                outcome.nonce == (0, 0) && is_clear(out.as_slice()) && is_clear(tag.as_slice()),
-            );
-        } else {
-            let (high, low) = outcome.nonce;
-            self.kept = Kept {
-                nonce: from_two_numbers(high, low),
-                ad,
-                message,
-                text: out,
-                tag,
-            };
+        let expected = Expected {
+            sizes: s.answer,
+            costs: self.mode.costs(s.ad, s.text),
+        };
+        self.books.seal(expected, outcome);
+        match outcome.answer {
+            Ok((high, low)) => {
+                self.kept = Kept {
+                    nonce: from_two_numbers(high, low),
+                    ad,
+                    text: out,
+                    tag,
+                    message: Some(message),
+                };
+            }
+            Err(_) => self
+                .books
+                .expect(is_clear(out.as_slice()) && is_clear(tag.as_slice())),
         }
         Ok(())
     }
@@ -196,24 +202,22 @@ impl<M: Mode + Copy> Bench<M> {
         post: &mut Post<M, C, S>,
     ) -> Result<(), AllocError> {
         // before the first seal there is no right frame
-        let right = self.kept.sealed() && self.generator.below(3) != 0;
+        let right = self.kept.message.is_some() && self.generator.below(3) != 0;
         let short = self.generator.below(16) == 0;
         let (outcome, out) = self.kept.open_by(heap, post, right, short)?;
-        let number = if short { 10 } else { 0 };
-        self.books.open(
-            Expected {
-                sizes: number,
-                costs: self.mode.costs(self.kept.ad.len(), self.kept.text.len()),
+        let expected = Expected {
+            sizes: if short {
+                Err(Refusal::NonceLength)
+            } else {
+                Ok(())
             },
-            right,
-            outcome,
-        );
-        let written = if outcome.refusal.is_some() {
-            is_clear(out.as_slice())
-        } else {
-            self.kept.holds(out.as_slice())
+            costs: self.mode.costs(self.kept.ad.len(), self.kept.text.len()),
         };
-        self.books.expect(written && outcome.nonce == (0, 0));
+        self.books.open(expected, right, outcome);
+        self.books.expect(match outcome.answer {
+            Ok(()) => self.kept.message == Some(out),
+            Err(_) => is_clear(out.as_slice()),
+        });
         Ok(())
     }
 }

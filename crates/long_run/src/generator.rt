@@ -26,6 +26,6 @@ impl Generator {
     /// A number from 0 to 255 below `n`, or 0.
     pub(crate) fn below(&mut self, n: u8) -> u8 {
         let x = (self.next() >> 20) % 256;
-        if n == 0 { 0 } else { (x as u8) % n }
+        (x as u8).checked_rem(n).unwrap_or(0)
     }
 }

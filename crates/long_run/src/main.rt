@@ -12,6 +12,7 @@ use amounts::Amounts;
 use anyhow::anyhow;
 use books::Books;
 use calls::Bench;
+use cipher::Counted;
 use generator::Generator;
 use makings::try_making;
 use mode::Mode;
@@ -27,88 +28,84 @@ const KEY: [u8; 16] = *b"long run's key 1";
 
 const SHEET_NONCES: u64 = 4_096;
 
+/// What a post is given: its name here, its allowance, the number of its nonces, and the calls that it gets.
+#[derive(Clone, Copy)]
+struct Terms<'a> {
+    name: &'a str,
+    allowance: u64,
+    nonces: u64,
+    calls: u64,
+}
+
 // One post, from making to retirement.
 fn run<M: Mode + Copy, S: NonceSource + Drop>(
     rt: &HostRuntime,
-    name: &str,
+    mode_name: &str,
     mode: M,
     source: S,
-    books: Books,
-    allowance: u64,
-    calls: u64,
+    terms: Terms,
 ) -> anyhow::Result<()> {
+    let Terms {
+        name,
+        allowance,
+        nonces,
+        calls,
+    } = terms;
+    let books = Books::new(allowance, nonces);
     let mut bench = Bench::new(rt.alloc(), mode, books, Generator::new(allowance))?;
-    match Post::new(mode, Skinny::new(Rounds::Forty), source, &KEY, allowance) {
-        Err(_) => Err(anyhow!("the making was refused")),
-        Ok(mut post) => {
-            let mut failed = false;
-            for _ in 0..calls {
-                failed = failed || bench.call(rt.alloc(), &mut post).is_err();
-            }
-            let retired = post.retire();
-            bench.books.compare(retired.reading);
-            let books = &bench.books;
-            println!(rt; "{name}: {books}")?;
-            if failed {
-                Err(anyhow!("no memory"))
-            } else {
-                Ok(())
-            }
-        }
-    }
+    let cipher = Counted::new(Skinny::new(Rounds::Forty));
+    let mut post = Post::new(mode, cipher, source, &KEY, allowance).map_err(|_| anyhow!(
+        "the making was refused"
+    ))?;
+    let called = bench.calls(rt.alloc(), &mut post, calls);
+    let retired = post.retire();
+    bench.books.compare(retired.reading);
+    let books = &bench.books;
+    println!(rt; "{mode_name}, {name}: {books}")?;
+    Ok(called?)
 }
 
-fn on_counting<M: Mode + Copy>(
+// One mode on each kind of nonce source with an allowance that lasts, and with one that runs out: one cipher call for each call.
+fn on_all_sources<M: Mode + Copy>(
     rt: &HostRuntime,
-    name: &str,
-    mode: M,
-    allowance: u64,
-    amounts: Amounts,
-) -> anyhow::Result<()> {
-    match Counting::new(b"long run", 1, amounts.nonces) {
-        Ok(source) => run(
-            rt,
-            name,
-            mode,
-            source,
-            Books::new(allowance, amounts.nonces),
-            allowance,
-            amounts.calls,
-        ),
-        Err(_) => Err(anyhow!("the counting source was refused")),
-    }
-}
-
-fn on_sheet<M: Mode + Copy>(
-    rt: &HostRuntime,
-    name: &str,
+    mode_name: &str,
     mode: M,
     entries: &[u64],
-    calls: u64,
+    amounts: Amounts,
 ) -> anyhow::Result<()> {
-    let allowance = 1 << 39;
-    match Sheet::new(entries) {
-        Ok(sheet) => run(
-            rt,
-            name,
-            mode,
-            sheet,
-            Books::new(allowance, SHEET_NONCES),
-            allowance,
-            calls,
-        ),
-        Err(_) => Err(anyhow!("the sheet was refused")),
-    }
+    let Amounts { calls, nonces, .. } = amounts;
+    let counting = || {
+        Counting::new(b"long run", 1, nonces).map_err(|_| anyhow!(
+            "the counting source was refused"
+        ))
+    };
+    let lasting = Terms {
+        name: "counting",
+        allowance: 1 << 40,
+        nonces,
+        calls,
+    };
+    let on_sheet = Terms {
+        name: "sheet",
+        allowance: 1 << 39,
+        nonces: SHEET_NONCES,
+        calls,
+    };
+    let scant = Terms {
+        name: "scant allowance",
+        allowance: calls,
+        nonces,
+        calls,
+    };
+    let sheet = Sheet::new(entries).map_err(|_| anyhow!("the sheet was refused"))?;
+    run(rt, mode_name, mode, counting()?, lasting)?;
+    run(rt, mode_name, mode, sheet, on_sheet)?;
+    run(rt, mode_name, mode, counting()?, scant)
 }
 
 // The largest sheet: 4,096 nonces, no two alike.
 fn largest_sheet(heap: Global) -> Result<Vec<u64>, AllocError> {
-    let mut entries = Vec::new(heap);
-    for i in 0..SHEET_NONCES {
-        entries.push(i % 64)?;
-        entries.push(i)?;
-    }
-    Ok(entries)
+    (0..SHEET_NONCES).flat_map(|i| [i % 64, i]).collect(heap)
 }
 
 // Makings alone, most of them refused.
@@ -124,23 +121,14 @@ fn on_makings(rt: &HostRuntime, makings: u64) -> anyhow::Result<()> {
 
 fn long_run(rt: &HostRuntime) -> anyhow::Result<()> {
     let amounts = Amounts::from_args(rt)?;
-    let calls = amounts.calls;
     let entries = largest_sheet(rt.alloc())?;
-    // each kind of nonce source, with an allowance that lasts and one that runs out: one cipher call for each call
-    on_counting(rt, "N, counting", RomulusN, 1 << 40, amounts)?;
-    on_sheet(rt, "N, sheet", RomulusN, entries.as_slice(), calls)?;
-    on_counting(rt, "N, scant allowance", RomulusN, calls, amounts)?;
-    on_counting(rt, "M, counting", RomulusM, 1 << 40, amounts)?;
-    on_sheet(rt, "M, sheet", RomulusM, entries.as_slice(), calls)?;
-    on_counting(rt, "M, scant allowance", RomulusM, calls, amounts)?;
-    on_counting(rt, "T, counting", RomulusT, 1 << 40, amounts)?;
-    on_sheet(rt, "T, sheet", RomulusT, entries.as_slice(), calls)?;
-    on_counting(rt, "T, scant allowance", RomulusT, calls, amounts)?;
+    on_all_sources(rt, "N", RomulusN, entries.as_slice(), amounts)?;
+    on_all_sources(rt, "M", RomulusM, entries.as_slice(), amounts)?;
+    on_all_sources(rt, "T", RomulusT, entries.as_slice(), amounts)?;
     if amounts.makings > 0 {
-        on_makings(rt, amounts.makings)
-    } else {
-        Ok(())
+        on_makings(rt, amounts.makings)?;
     }
+    Ok(())
 }
 
 fn main(rt: HostRuntime) -> anyhow::Result<()> {

@@ -1,12 +1,13 @@
 //! What a sweep counts, and the digest over its frames.
 use crate::case::Sealed;
+use cipher::Counted;
 use romulus_h::hash;
 use skinny::{Rounds, Skinny};
 use std::alloc::{AllocError, Global};
 use std::fmt;
 
 /// Counts over all cases of one mode on one cipher.
-#[derive(Drop)]
+#[derive(Default, Drop)]
 pub struct Totals {
     frames: u64,
     right: u64,
@@ -19,28 +20,16 @@ pub struct Totals {
 }
 
 impl Totals {
-    pub(crate) fn new() -> Totals {
-        Totals {
-            frames: 0,
-            right: 0,
-            damaged: 0,
-            refused: 0,
-            calls: 0,
-            strays: 0,
-            digest: [0; 32],
-        }
-    }
-
     /// An undamaged frame, and whether its opening gave the message back.
     pub(crate) fn count_right(&mut self, right: bool) {
         self.frames = self.frames.wrapping_add(1);
-        self.right = self.right.wrapping_add(right as u64);
+        self.right = self.right.wrapping_add(u64::from(right));
     }
 
     /// A damaged frame, and whether it was refused with 13.
     pub(crate) fn count_damaged(&mut self, refused: bool) {
         self.damaged = self.damaged.wrapping_add(1);
-        self.refused = self.refused.wrapping_add(refused as u64);
+        self.refused = self.refused.wrapping_add(u64::from(refused));
     }
 
     /// How far the cipher's count rose, what the mode told before, and what the call answered.
@@ -51,12 +40,17 @@ impl Totals {
         }
     }
 
+    /// The digest over the frames so far.
+    pub(crate) fn digest(&self) -> &[u8] {
+        &self.digest
+    }
+
     /// The digest goes on to that of itself, the ciphertext and the tag.
     pub(crate) fn chain(&mut self, heap: Global, sealed: &Sealed) -> Result<(), AllocError> {
         let mut input = self.digest.to_vec(heap)?;
         input.extend_from_slice(sealed.text.as_slice())?;
         input.extend_from_slice(sealed.tag.as_slice())?;
-        let mut cipher = Skinny::new(Rounds::Forty);
+        let mut cipher = Counted::new(Skinny::new(Rounds::Forty));
         let _ = hash(&mut cipher, input.as_slice(), &mut self.digest);
         Ok(())
     }
@@ -71,15 +65,11 @@ impl fmt::Display for Totals {
             refused,
             calls,
             strays,
-            digest,
+            ..
         } = self;
         write!(
             f,
-            "{frames} frames, {right} opened, {refused} of {damaged} damaged refused, {calls} calls, {strays} strays, "
-        )?;
-        for b in digest {
-            write!(f, "{b:02x}")?;
-        }
-        Ok(())
+            "{frames} frames, {right} opened, {refused} of {damaged} damaged refused, {calls} calls, {strays} strays"
+        )
     }
 }

@@ -7,16 +7,18 @@ mod sizes;
 
 use any_cipher::AnyCipher;
 use anyhow::anyhow;
+use cipher::Counted;
 use mode::{Mode, is_clear};
 use posts::{after_wrong, two_empty_seals};
 use published::published;
-use refusals::answer_number;
+use refusals::Refusal;
 use romulus_h::hash;
 use romulus_m::RomulusM;
 use romulus_n::RomulusN;
 use romulus_t::RomulusT;
 use sizes::{CASES, refused_so};
 use skinny::Rounds;
+use std::alloc::{AllocError, Global};
 use worked_examples::worked_examples;
 
 // Prints a case; one that fails ends the run.
@@ -33,7 +35,7 @@ fn check(rt: &HostRuntime, name: &str, holds: bool) -> anyhow::Result<()> {
 fn refusals<M: Mode>(rt: &HostRuntime, name: &str, mode: &M) -> anyhow::Result<()> {
     let mut held = 0u32;
     for sizes in &CASES {
-        let mut cipher = AnyCipher::skinny(Rounds::Forty);
+        let mut cipher = Counted::new(AnyCipher::skinny(Rounds::Forty));
         if refused_so(rt.alloc(), mode, &mut cipher, sizes)? {
             held = held.saturating_add(1);
         }
@@ -42,73 +44,85 @@ fn refusals<M: Mode>(rt: &HostRuntime, name: &str, mode: &M) -> anyhow::Result<(
     check(rt, name, held == 13)
 }
 
-// The hash at its limits: the number for an input and a digest's place of these lengths, and zeros after a refusal.
-fn hash_answers(rt: &HostRuntime, input: usize, place: usize, number: u8) -> anyhow::Result<bool> {
-    let text = vec![in rt.alloc(); 5; input]?;
-    let mut digest = vec![in rt.alloc(); 9; place]?;
-    let mut cipher = AnyCipher::skinny(Rounds::Forty);
-    let answered = answer_number(hash(&mut cipher, text.as_slice(), digest.as_mut_slice()));
-    let calls = if number == 0 {
-        2 * (1_048_576 / 32 + 1)
-    } else {
-        0
+// Whether the hash of so long an input into a place so long answers so, and leaves zeros only after a refusal.
+fn hash_answers(
+    heap: Global,
+    input: usize,
+    place: usize,
+    answer: Result<(), Refusal>,
+) -> Result<bool, AllocError> {
+    let text = vec![in heap; 5; input]?;
+    let mut digest = vec![in heap; 9; place]?;
+    let mut cipher = Counted::new(AnyCipher::skinny(Rounds::Forty));
+    let answered = hash(&mut cipher, text.as_slice(), digest.as_mut_slice());
+    let calls = match answer {
+        Ok(()) => 2 * (1_048_576 / 32 + 1),
+        Err(_) => 0,
     };
     Ok(
-        answered == number
+        answered == answer
             && cipher.calls() == calls
-            && is_clear(digest.as_slice()) == (number != 0),
+            && is_clear(digest.as_slice()) == answer.is_err(),
     )
 }
 
+// The hash at its limits.
 fn hash_limits(rt: &HostRuntime) -> anyhow::Result<()> {
-    check(
-        rt,
-        "hash of 1,048,576 bytes",
-        hash_answers(rt, 1_048_576, 32, 0)?,
-    )?;
-    check(
-        rt,
-        "hash of 1,048,577 bytes is refused with 14",
-        hash_answers(rt, 1_048_577, 31, 14)?,
-    )?;
-    check(
-        rt,
-        "digest's place of 31 bytes is refused with 15",
-        hash_answers(rt, 0, 31, 15)?,
-    )?;
-    check(
-        rt,
-        "digest's place of 33 bytes is refused with 15",
-        hash_answers(rt, 64, 33, 15)?,
-    )
+    let cases = [
+        ("hash of 1,048,576 bytes", 1_048_576, 32, Ok(())),
+        (
+            "hash of 1,048,577 bytes is refused with 14",
+            1_048_577,
+            31,
+            Err(Refusal::HashLength),
+        ),
+        (
+            "digest's place of 31 bytes is refused with 15",
+            0,
+            31,
+            Err(Refusal::DigestLength),
+        ),
+        (
+            "digest's place of 33 bytes is refused with 15",
+            64,
+            33,
+            Err(Refusal::DigestLength),
+        ),
+    ];
+    for (name, input, place, answer) in cases {
+        check(rt, name, hash_answers(rt.alloc(), input, place, answer)?)?;
+    }
+    Ok(())
 }
 
 fn post_cases(rt: &HostRuntime) -> anyhow::Result<()> {
-    check(
-        rt,
-        "an empty seal of Romulus-N at the allowance 1 gives 11",
-        two_empty_seals(RomulusN, 1, 9) == Some((11, 11)),
-    )?;
-    check(
-        rt,
-        "at the allowance 2 it is taken",
-        two_empty_seals(RomulusN, 2, 9) == Some((0, 11)),
-    )?;
-    check(
-        rt,
-        "a source of one nonce seals once, and then gives 12",
-        two_empty_seals(RomulusN, 100, 1) == Some((0, 12)),
-    )?;
-    check(
-        rt,
-        "13 deducts the cost of a wrong opening: in Romulus-N that of a right one",
-        after_wrong(RomulusN) == Some((13, 98)),
-    )?;
-    check(
-        rt,
-        "in Romulus-T less",
-        after_wrong(RomulusT) == Some((13, 95)),
-    )
+    let spent = Some(Refusal::AllowanceSpent);
+    let cases = [
+        (
+            "an empty seal of Romulus-N at the allowance 1 gives 11",
+            two_empty_seals(RomulusN, 1, 9) == Ok([spent, spent]),
+        ),
+        (
+            "at the allowance 2 it is taken",
+            two_empty_seals(RomulusN, 2, 9) == Ok([None, spent]),
+        ),
+        (
+            "a source of one nonce seals once, and then gives 12",
+            two_empty_seals(RomulusN, 100, 1) == Ok([None, Some(Refusal::NoNonce)]),
+        ),
+        (
+            "13 deducts the cost of a wrong opening: in Romulus-N that of a right one",
+            after_wrong(RomulusN) == Ok((Err(Refusal::WrongFrame), 98)),
+        ),
+        (
+            "in Romulus-T less",
+            after_wrong(RomulusT) == Ok((Err(Refusal::WrongFrame), 95)),
+        ),
+    ];
+    for (name, holds) in cases {
+        check(rt, name, holds)?;
+    }
+    Ok(())
 }
 
 fn run(rt: &HostRuntime) -> anyhow::Result<()> {

@@ -1,5 +1,5 @@
 //! Published vectors of Skinny-128-384, compared with what the library computes.
-use cipher::Cipher;
+use cipher::BlockCipher;
 use skinny::{Rounds, Skinny};
 
 /// A published vector: the cipher, its tweakey and block, and the answer.
@@ -15,9 +15,7 @@ pub struct Vector {
 impl Vector {
     /// Whether the cipher gives the published answer.
     pub(crate) fn holds(&self) -> bool {
-        let mut cipher = Skinny::new(self.rounds);
-        let answer = cipher.encrypt(&self.tweakey, &self.block);
-        byte_blocks::equal(&answer, &self.answer)
+        Skinny::new(self.rounds).encrypt_block(&self.tweakey, &self.block) == self.answer
     }
 }
 

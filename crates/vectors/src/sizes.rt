@@ -1,9 +1,10 @@
 //! The refusals of a direct call, by the sizes of what it is handed.
 use cipher::Cipher;
 use mode::{Mode, is_clear};
+use refusals::Refusal;
 use std::alloc::{AllocError, Global};
 
-/// The lengths of what a call is handed, and the number that it must answer.
+/// The lengths of what a call is handed, and what it must answer to them.
 #[derive(Clone, Copy)]
 pub struct Sizes {
     pub key: usize,
@@ -12,7 +13,7 @@ pub struct Sizes {
     pub out: usize,
     pub tag: usize,
     pub nonce: usize,
-    pub number: u8,
+    pub answer: Result<(), Refusal>,
 }
 
 const LAWFUL: Sizes = Sizes {
@@ -22,7 +23,7 @@ const LAWFUL: Sizes = Sizes {
     out: 65535,
     tag: 16,
     nonce: 16,
-    number: 0,
+    answer: Ok(()),
 };
 
 /// Each question answered no alone, and each with all later ones answered no too, so that the order shows.
@@ -30,33 +31,33 @@ pub const CASES: [Sizes; 13] = [
     LAWFUL,
     Sizes {
         key: 15,
-        number: 4,
+        answer: Err(Refusal::KeyLength),
         ..LAWFUL
     },
     Sizes {
         ad: 65536,
-        number: 6,
+        answer: Err(Refusal::DataLength),
         ..LAWFUL
     },
     Sizes {
         text: 65536,
         out: 65536,
-        number: 7,
+        answer: Err(Refusal::TextLength),
         ..LAWFUL
     },
     Sizes {
         out: 65534,
-        number: 8,
+        answer: Err(Refusal::OutputLength),
         ..LAWFUL
     },
     Sizes {
         tag: 17,
-        number: 9,
+        answer: Err(Refusal::TagLength),
         ..LAWFUL
     },
     Sizes {
         nonce: 0,
-        number: 10,
+        answer: Err(Refusal::NonceLength),
         ..LAWFUL
     },
     Sizes {
@@ -66,7 +67,7 @@ pub const CASES: [Sizes; 13] = [
         out: 1,
         tag: 0,
         nonce: 15,
-        number: 4,
+        answer: Err(Refusal::KeyLength),
     },
     Sizes {
         key: 16,
@@ -75,7 +76,7 @@ pub const CASES: [Sizes; 13] = [
         out: 1,
         tag: 0,
         nonce: 15,
-        number: 6,
+        answer: Err(Refusal::DataLength),
     },
     Sizes {
         key: 16,
@@ -84,7 +85,7 @@ pub const CASES: [Sizes; 13] = [
         out: 1,
         tag: 0,
         nonce: 15,
-        number: 7,
+        answer: Err(Refusal::TextLength),
     },
     Sizes {
         key: 16,
@@ -93,7 +94,7 @@ pub const CASES: [Sizes; 13] = [
         out: 1,
         tag: 0,
         nonce: 15,
-        number: 8,
+        answer: Err(Refusal::OutputLength),
     },
     Sizes {
         key: 16,
@@ -102,7 +103,7 @@ pub const CASES: [Sizes; 13] = [
         out: 0,
         tag: 0,
         nonce: 15,
-        number: 9,
+        answer: Err(Refusal::TagLength),
     },
     Sizes {
         key: 16,
@@ -111,11 +112,11 @@ pub const CASES: [Sizes; 13] = [
         out: 0,
         tag: 16,
         nonce: 15,
-        number: 10,
+        answer: Err(Refusal::NonceLength),
     },
 ];
 
-/// Whether a seal and an opening of these sizes answer the number, and a refusal leaves zeros and costs nothing.
+/// Whether a seal and an opening of these sizes answer so, and a refusal leaves zeros and costs nothing.
 pub(crate) fn refused_so<M: Mode, C: Cipher>(
     heap: Global,
     mode: &M,
@@ -137,10 +138,8 @@ pub(crate) fn refused_so<M: Mode, C: Cipher>(
         out.as_mut_slice(),
         tag.as_mut_slice(),
     );
-    let mut fits = sealed.number() == sizes.number;
-    if sizes.number != 0 {
-        fits = fits && sealed.cost == 0 && is_clear(out.as_slice()) && is_clear(tag.as_slice());
-    }
+    let cleared = sealed.cost == 0 && is_clear(out.as_slice()) && is_clear(tag.as_slice());
+    let sealed_so = sealed.answer == sizes.answer && (sealed.answer.is_ok() || cleared);
     let opened = mode.open(
         cipher,
         key.as_slice(),
@@ -150,6 +149,7 @@ pub(crate) fn refused_so<M: Mode, C: Cipher>(
         tag.as_slice(),
         out.as_mut_slice(),
     );
-    let wanted = if sizes.number == 0 { 13 } else { sizes.number };
-    Ok(fits && opened.number() == wanted && is_clear(out.as_slice()))
+    // nobody sealed the frame, so that lawful sizes only lead to the last question
+    let opened_so = opened.answer == sizes.answer.and(Err(Refusal::WrongFrame));
+    Ok(sealed_so && opened_so && is_clear(out.as_slice()))
 }

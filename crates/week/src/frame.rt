@@ -1,22 +1,8 @@
-//! A sealed record as it lies on the shelf, and bytes in hexadecimal.
+//! A sealed record as it lies on the shelf.
 use std::alloc::{AllocError, Global};
-use std::fmt;
-
-/// Bytes that print as small hexadecimal digits.
-#[derive(Clone, Copy)]
-pub struct Hex<'a>(pub &'a [u8]);
-
-impl fmt::Display for Hex<'_> {
-    fn fmt<W: fmt::Write>(&self, f: &mut fmt::Formatter<W>) -> fmt::Result {
-        for b in self.0 {
-            write!(f, "{b:02x}")?;
-        }
-        Ok(())
-    }
-}
 
 /// A frame: nonce, label as associated data, ciphertext and tag.
-#[derive(Drop)]
+#[derive(PartialEq, Eq, Drop)]
 pub struct Frame {
     pub nonce: [u8; 16],
     pub label: Vec<u8>,
@@ -32,26 +18,16 @@ impl Frame {
         label: &[u8],
         len: usize,
     ) -> Result<Frame, AllocError> {
-        let label = label.to_vec(heap)?;
-        let text = vec![in heap; 0; len]?;
         Ok(Frame {
             nonce,
-            label,
-            text,
+            label: label.to_vec(heap)?,
+            text: vec![in heap; 0; len]?,
             tag: [0; 16],
         })
     }
 
-    /// Whether two frames are the same, ciphertext and tag.
-    pub(crate) fn same(&self, other: &Frame) -> bool {
-        self.text.as_slice() == other.text.as_slice() && byte_blocks::equal(&self.tag, &other.tag)
-    }
-
     /// The label, which anybody reads off the frame without a key.
     pub(crate) fn label(&self) -> &str {
-        match std::str::from_utf8(self.label.as_slice()) {
-            Ok(text) => text,
-            Err(_) => "(no text)",
-        }
+        std::str::from_utf8(self.label.as_slice()).unwrap_or("(no text)")
     }
 }

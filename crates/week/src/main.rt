@@ -5,11 +5,13 @@ mod days;
 mod frame;
 mod posts;
 mod settings;
+mod workshop;
 
 use days::{friday, monday, saturday, thursday, tuesday};
 use posts::{close_the_week, wednesday};
 use settings::Settings;
 use skinny::Rounds;
+use workshop::Workshop;
 
 // One scanner's week.
 fn scanner(rt: &HostRuntime, rounds: Rounds, label: &str, nonce: [u8; 16]) -> anyhow::Result<()> {
@@ -18,12 +20,13 @@ fn scanner(rt: &HostRuntime, rounds: Rounds, label: &str, nonce: [u8; 16]) -> an
         beep: true,
         baud: 9600,
     };
-    let sealed = monday(rt, rounds, label, nonce, &settings)?;
+    let workshop = Workshop { rt, rounds };
+    let sealed = monday(workshop, label, nonce, &settings)?;
     tuesday(rt, &sealed)?;
-    let changed = wednesday(rt, rounds, &sealed)?;
-    thursday(rt, rounds, &changed)?;
-    friday(rt, rounds, &changed)?;
-    saturday(rt, rounds, changed)
+    let changed = wednesday(workshop, &sealed)?;
+    thursday(workshop, &changed)?;
+    friday(workshop, &changed)?;
+    saturday(workshop, changed)
 }
 
 fn week(rt: &HostRuntime) -> anyhow::Result<()> {

@@ -1,6 +1,7 @@
 //! The settings of a scanner, and the little text that a record holds: `trigger=250 beep=on baud=9600`.
-use std::alloc::{AllocError, Global};
+use std::error::Error;
 use std::fmt;
+use std::str::FromStr;
 
 /// What a workshop sets on a scanner.
 #[derive(Clone, Copy)]
@@ -13,36 +14,45 @@ pub struct Settings {
 
 impl fmt::Display for Settings {
     fn fmt<W: fmt::Write>(&self, f: &mut fmt::Formatter<W>) -> fmt::Result {
-        let trigger = self.trigger;
+        let Settings { trigger, baud, .. } = self;
         let beep = if self.beep { "on" } else { "off" };
-        let baud = self.baud;
         write!(f, "trigger={trigger} beep={beep} baud={baud}")
     }
 }
 
-/// The text of a record.
-pub(crate) fn write_record(heap: Global, settings: &Settings) -> Result<String, AllocError> {
-    format!(in heap; "{settings}")
+/// A text that is no record.
+#[derive(Clone, Copy, Debug, PartialEq, Eq)]
+pub struct NoSettings;
+
+impl fmt::Display for NoSettings {
+    fn fmt<W: fmt::Write>(&self, f: &mut fmt::Formatter<W>) -> fmt::Result {
+        write!(f, "the record holds no settings")
+    }
 }
 
-/// The settings that a record's text holds, if it is one.
-pub(crate) fn read_record(text: &str) -> Option<Settings> {
-    let mut trigger = None;
-    let mut beep = None;
-    let mut baud = None;
-    for field in text.split(' ') {
-        if let Some((name, value)) = field.split_once('=') {
-            match name {
-                "trigger" => trigger = value.parse::<u16>().ok(),
-                "beep" => beep = Some(value == "on"),
-                "baud" => baud = value.parse::<u32>().ok(),
-                _ => return None,
+impl Error for NoSettings {}
+
+impl FromStr for Settings {
+    type Err = NoSettings;
+
+    fn from_str(text: &str) -> Result<Settings, NoSettings> {
+        let mut trigger = None;
+        let mut beep = None;
+        let mut baud = None;
+        for field in text.split(' ') {
+            if let Some((name, value)) = field.split_once('=') {
+                match name {
+                    "trigger" => trigger = value.parse::<u16>().ok(),
+                    "beep" => beep = Some(value == "on"),
+                    "baud" => baud = value.parse::<u32>().ok(),
+                    _ => return Err(NoSettings),
+                }
             }
         }
+        Ok(Settings {
+            trigger: trigger.ok_or(NoSettings)?,
+            beep: beep.ok_or(NoSettings)?,
+            baud: baud.ok_or(NoSettings)?,
+        })
     }
-    Some(Settings {
-        trigger: trigger?,
-        beep: beep?,
-        baud: baud?,
-    })
 }
