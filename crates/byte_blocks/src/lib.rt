@@ -6,6 +6,9 @@ ghost use Rattle.byte_blocks.specs.Bytes.{xors, g_byte, g_of};
 ghost use Rattle.byte_blocks.specs.Counter.{stepped, counter_bytes};
 ghost use Rattle.byte_blocks.specs.Block.{ended, padded, first_bytes, tweakey_head, tweakey_of, if_short, block_count, BlocksCut};
 
+/// The counter's first value.
+pub const FIRST_COUNTER: u64 = 1;
+
 /// The counter, one step on. Bits above the 56th do not count.
 pub fn step(c: u64) -> u64
     ensures { result ≡ stepped c }

@@ -60,14 +60,15 @@ pub trait BlockCipher {
 /// A block cipher with a count of its calls, modulo 2^64. It answers as the block cipher does.
 #[derive(Drop)]
 pub struct Counted<B> {
-    cipher: B,
+    pub cipher: B,
     calls: u64,
 }
 
 impl<B: BlockCipher> Counted<B> {
     /// A cipher that was never called.
     pub fn new(cipher: B) -> Self
-        ensures answers { result.cipher ≡ cipher }
+        ensures cipher { result.cipher ≡ cipher }
+        ensures answers { ⟦<Counted<B> as Cipher>⟧.answer result ≡ B.answer cipher }
         ensures fresh { ⟦<Counted<B> as Cipher>⟧.count result ≡ 0 }
     {
         Counted { cipher, calls: 0 }
@@ -77,7 +78,8 @@ impl<B: BlockCipher> Counted<B> {
     pub fn calls(&self) -> u64
         ensures { result ≡ ⟦<Counted<B> as Cipher>⟧.count self.now }
     {
-        self.calls
+        let Counted { calls, .. } = self;
+        *calls
     }
 }
 

@@ -37,7 +37,7 @@ pub enum Fault {
     Mode(Refusal),
 }
 
-// These three by hand, since the contracts above read from `from_gives` which fault a `?` makes, and a derive says nothing of it.
+// These three by hand, since contracts of the crates above read from `from_gives` which fault a `?` makes, and a derive says nothing of it.
 impl From<LineFault> for Fault {
     ghost from_gives = { λ e r. r ≡ Line e };
 

@@ -97,6 +97,7 @@ impl TryFrom<u8> for CipherName {
 }
 
 // What stands behind the letter of a frame to be sealed: nonce, the data's length, data, message.
+// A pattern with a name for each byte, which is a fixed form of this library.
 fn cut(body: &[u8]) -> Option<Parts<'_>>
     ensures { Cut body.now result }
 {

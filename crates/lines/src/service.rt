@@ -13,7 +13,7 @@ use hex_lines::buffer::Buffer;
 use hex_lines::fault::two_bytes;
 use mode::Mode;
 use refusals::Refusal;
-use romulus_h::{Digest, Hasher};
+use romulus_h::Hasher;
 use romulus_m::RomulusM;
 use romulus_n::RomulusN;
 use romulus_t::RomulusT;
@@ -107,6 +107,7 @@ impl Sealed<'_> {
 }
 
 /// The frame that a message seals to.
+// The bound on the parts stays a `requires`, here, above and below: parts are also cut from frames of any length.
 pub(crate) fn seal_frame<C: Cipher>(
     cipher: &mut C,
     variant: Variant,
@@ -121,7 +122,7 @@ pub(crate) fn seal_frame<C: Cipher>(
         ad,
         text: message,
     } = parts;
-    // An array, since a `Buffer` that lends its bytes would have to show its zeros whatever is left in the whole room.
+    // An array, here and below: whoever lends a `Buffer`'s bytes for writing must show that the room behind them is zeros again.
     let mut room = [0; FRAME];
     let text = &mut room[..message.len()];
     text.copy_from_slice(message);
@@ -157,9 +158,7 @@ pub(crate) fn open_frame<C: Cipher>(
 pub(crate) fn digest<C: Cipher>(cipher: &mut C, text: &[u8]) -> Reply
     ensures { result ≡ digest_of (C.answer cipher.old) text.now }
 {
-    let Digest { left, right } = Hasher::new().finish(cipher, text);
     let mut result = Buffer::new();
-    result.extend(&left);
-    result.extend(&right);
+    result.extend(&Hasher::new().finish(cipher, text).bytes());
     result
 }

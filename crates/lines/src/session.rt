@@ -65,7 +65,8 @@ fn write_answer(reply: Result<Reply, Fault>) -> Answer
     text
 }
 
-/// A session that answers lines.
+/// A session that answers lines. Between lines its frame is empty.
+// no ghost field says that, since `reply` works on a session whose frame is held
 #[derive(Drop)]
 pub struct Session {
     held: Held,

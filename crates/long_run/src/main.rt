@@ -62,7 +62,7 @@ fn run<M: Mode + Copy, S: NonceSource + Drop>(
     bench.books.compare(retired.reading);
     let books = &bench.books;
     println!(rt; "{mode_name}, {name}: {books}")?;
-    Ok(called?)
+    called.map_err(|_| anyhow!("no memory"))
 }
 
 // One mode on each kind of nonce source with an allowance that lasts, and with one that runs out: one cipher call for each call.

@@ -9,6 +9,7 @@ use romulus_n::RomulusN;
 use skinny::{Rounds, Skinny};
 use std::alloc::{AllocError, Global};
 
+// The limits stand here once more, so that the books do not lean on the library.
 const MOST_ALLOWED: u64 = 1 << 40;
 
 const MOST_ENTRIES: u64 = 8_192;

@@ -26,7 +26,7 @@ key_question key = ask KeyLength (key == 16)
 abbrev pub size_questions : (key ad text out tag nonce : ℕ) → List Question
 size_questions key ad text out tag nonce = key_question key ∷ (frame_questions ad text out tag ++ (nonce_question nonce ∷ []))
 
--- Costs that do not depend on what is called: alike 2 has the costs 2, 2 and 2.
+-- Costs of a mode where a seal, a right and a wrong opening cost the same: alike 2 has the costs 2, 2 and 2.
 abbrev pub alike : ℕ → Costs
 alike calls = record { seal = calls; right = calls; wrong = calls }
 

@@ -21,7 +21,7 @@ pub struct Counting {
 impl Counting {
     /// A source of `amount` nonces whose count begins at `first`. It is refused where first + amount is above 2^64 - 1;
     /// with the amount 0 it is born empty.
-    // What a source means is its implementation's to give, so that the nonces that are to come stand in this contract.
+    // What a source means is its implementation's to give, so the contract tells the nonces that are to come.
     pub fn new(prefix: &[u8; 8], first: u64, amount: u64) -> Result<Counting, Refusal>
         ensures { MatchResult result (λ s. (count_refusal first amount ≡ None) × (⟦<Counting as NonceSource>⟧.pending s ≡ counted prefix.now first amount)) (λ e. count_refusal first amount ≡ Some e) }
     {

@@ -30,6 +30,7 @@ fn all_different(pairs: &[[u64; 2]]) -> bool
     ensures { Decides result (NoRepeats pairs.now) }
 {
     let mut left = pairs;
+    // cut by hand, since no iterator hands out an item with those behind it
     while let Some((pair, more)) = left.split_first() {
         if stands(pair, more) {
             return false;
@@ -41,7 +42,7 @@ fn all_different(pairs: &[[u64; 2]]) -> bool
 
 impl<'a> Sheet<'a> {
     /// A source of the nonces on a sheet. It is refused for its size, or for a nonce that stands on it twice.
-    // What a source means is its implementation's to give, so that the nonces that are to come stand in this contract.
+    // What a source means is its implementation's to give, so the contract tells the nonces that are to come.
     pub fn new(entries: &'a [u64]) -> Result<Sheet<'a>, Refusal>
         ensures { MatchResult result (λ s. SheetSized entries.now × NoRepeats (sheet_nonces entries.now) × (⟦<Sheet<'a> as NonceSource>⟧.pending s ≡ sheet_nonces entries.now)) (λ e. SheetRefused entries.now e) }
     {

@@ -8,7 +8,7 @@ ghost use Rattle.byte_blocks.specs.Block.{padded, blocks, block_count};
 ghost use Rattle.cipher.specs.Cipher.{Called, enciphered};
 ghost use Rattle.passes.specs.Passes.{absorbed, mixed, walked, left};
 
-use byte_blocks::{g_block, pad, step, xor_into};
+use byte_blocks::{FIRST_COUNTER, g_block, pad, step, xor_into};
 use cipher::{Cipher, encipher};
 
 /// Which way a text goes through the enciphering pass.
@@ -19,9 +19,6 @@ pub enum Direction {
     /// The text is the ciphertext and becomes the message.
     Opening,
 }
-
-// The counter before the first block of a text.
-const FIRST_COUNTER: u64 = 1;
 
 /// What goes from call to call: a block, and the counter of the last block of text that was taken in.
 #[derive(Clone, Copy)]

@@ -1,8 +1,6 @@
 // The calls of a post.
-ghost use Rattle.std.specs.Prelude.{◌≡◌, ◌≤◌, [], ◌∷◌, length, if◌then◌else◌, Some, None, MatchResult};
+ghost use Rattle.std.specs.Prelude.{◌≡◌, ◌≤◌, [], ◌∷◌, length, MatchResult};
 ghost use Rattle.refusals.specs.Refusals.{first_no, after_asking};
-ghost use Rattle.cipher.specs.Cipher.{Called};
-ghost use Rattle.mode.specs.Mode.{Opened};
 ghost use Rattle.promise.specs.Calls.{Seal, Open, Read};
 ghost use Rattle.promise.specs.Answers.{questions, Stepped};
 ghost use Rattle.post.specs.Post.{standing_of, making_of, Made, NotMade, sealed, opened, told};

@@ -19,6 +19,7 @@ pub struct Reading {
 /// A mode, a cipher and a nonce source under one key, with what may still be spent and what has been done.
 ///
 /// A post cannot be let go: it is ended by `retire`, which hands its parts back.
+// no `impl Model`: clauses say how it stands, and also that its mode, cipher and source are the same, which such a view would hide
 pub struct Post<M, C, S> {
     mode: M,
     cipher: C,

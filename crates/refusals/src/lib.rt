@@ -4,7 +4,7 @@
 ghost use Rattle.std.specs.Prelude.{◌≡◌};
 ghost use Rattle.refusals.specs.Refusals.{number_of, answer_number};
 
-/// The question that was answered no. Each case is the number that callers are told.
+/// The question that was answered no. Each case has the number that callers are told.
 #[derive(Clone, Copy, PartialEq, Eq, Debug)]
 pub enum Refusal {
     /// First + amount of a counting source is above 2^64 - 1.

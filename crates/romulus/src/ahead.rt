@@ -16,7 +16,7 @@ pub const KEPT: usize = 8193;
 /// Bytes read and not yet handed on. All else is zeros: what was handed on, and what lies behind.
 #[derive(Drop)]
 pub struct Ahead {
-    // not a `Buffer` of lines, which lets go of all that it holds at once
+    // not a `Buffer` of `hex_lines`, which lets go of all that it holds at once
     bytes: [u8; ROOM],
     at: usize,
     end: usize,

@@ -37,6 +37,7 @@ fn serve(rt: &HostRuntime) -> anyhow::Result<()> {
     let mut output = BufWriter::new(rt.alloc(), rt.stdout())?;
     let mut session = Session::new();
     let mut line = Vec::with_capacity(rt.alloc(), KEPT)?;
+    // to the end of the input; a count, since every loop must be seen to end
     for _ in 0..u64::MAX {
         let Some(next) = next_line(&mut input, &mut ahead, &mut line)? else {
             break;

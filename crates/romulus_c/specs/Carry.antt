@@ -1,4 +1,4 @@
--- How a call goes by a post of the library. Inner functions speak of it; no public contract does.
+-- How a call goes by a post of the library, and how its outcome is told. Inner functions speak of it, and the conversions of outcomes.
 use Rattle.std.specs.Prelude.{◌≡◌, ℕ, ◌+◌, ◌-◌, ◌%◌, ◌^◌, ◌≤◌, true, false, List, Some, None, Ok, Err, Result}
 use Rattle.cipher.specs.Cipher.{Answer}
 use Rattle.cipher.specs.declared.Counted.{Counted}

@@ -64,12 +64,12 @@ pub struct RomulusReading {
     pub wrong: u64,
 }
 
-// The mode of a post, as its letter's code.
+// The mode of a post, by its letter. (`lines` has its own three, since neither crate stands on the other.)
 #[derive(Clone, Copy)]
 pub(crate) enum Letter {
-    N = 78,
-    M = 77,
-    T = 84,
+    N,
+    M,
+    T,
 }
 
 // The mode and the rounds that two numbers name. Where there is none of that name, no key is held.
@@ -113,7 +113,8 @@ pub(crate) fn ask(post: &RomulusPost) -> Result<(Letter, Rounds), Refusal>
     Ok(named)
 }
 
-// The library's post over what is kept, with its allowance left and with counters of its own.
+// The library's post over what is kept, with its allowance left and with counters of its own. That the questions were asked stays a `requires`:
+// a struct round the lent post would have to say as well, in each contract, that it is still the same post.
 fn load<M: Mode + Drop>(
     mode: M,
     rounds: Rounds,

@@ -83,6 +83,7 @@ pub extern "C" fn romulus_c_post_seal(
 ) -> RomulusPostAnswer
     ensures { CallTold post.old (Seal ad.now message.now out.old tag.old) (first_no (kept_questions post.old)) (reply_of result (out.new ∷ tag.new ∷ [])) post.new }
 {
+    // a mode is generic in the cipher, so that there is no `dyn Mode` to choose once
     match ask(post) {
         Ok((Letter::N, rounds)) => seal_by(RomulusN, rounds, post, ad, message, out, tag),
         Ok((Letter::M, rounds)) => seal_by(RomulusM, rounds, post, ad, message, out, tag),

@@ -34,8 +34,8 @@ impl Digest {
         self.right = right;
     }
 
-    // The digest in one piece.
-    fn bytes(self) -> [u8; 32]
+    /// The digest in one piece.
+    pub fn bytes(self) -> [u8; 32]
         ensures { result ≡ self.left ++ self.right }
     {
         let Digest { left, right } = self;

@@ -10,7 +10,7 @@ ghost use Rattle.romulus_h.specs.Hash.{digest_of, hash_calls};
 ghost use Rattle.romulus_t.specs.ModeT.{message_blocks, padded_blocks, tag_input, ciphertext_of, tag_of, tag_cost, t_scheme};
 ghost use Rattle.romulus_t.specs.Laws.{t_keeps};
 
-use byte_blocks::{counter_bytes, equal, step, xor_into};
+use byte_blocks::{FIRST_COUNTER, counter_bytes, equal, step, xor_into};
 use cipher::{Cipher, encipher};
 use mode::{Costs, Mode, clear};
 use romulus_h::{Digest, Hasher};
@@ -27,15 +27,28 @@ const FIRST_DOMAIN: u8 = 66;
 // The domain byte of the tag.
 const TAG_DOMAIN: u8 = 68;
 
-// The counter's first value.
-const FIRST_COUNTER: u64 = 1;
-
 // What the calls for the first block key and the tag have in the counter's place: zeros, and not its first value.
 const NO_COUNTER: u64 = 0;
 
 /// Romulus-T. A nonce must not come twice under one key.
 #[derive(Clone, Copy)]
 pub struct RomulusT;
+
+// The cipher's answer for the nonce, under a block key and no tweak.
+fn of_nonce<C: Cipher>(
+    cipher: &mut C,
+    block_key: &[u8; 16],
+    domain: u8,
+    counter: u64,
+    nonce: &[u8; 16],
+) -> [u8; 16]
+    ensures value { result ≡ enciphered (C.answer cipher.old) block_key.now zero_block domain counter nonce.now }
+    ensures called { Called (C.answer cipher.old) (C.count cipher.old) 1 (C.answer cipher.new) (C.count cipher.new) }
+{
+    let mut block = *nonce;
+    encipher(cipher, block_key, &[0; 16], domain, counter, &mut block);
+    block
+}
 
 // The key stream from one block on: that block's key, and its counter.
 #[derive(Drop)]
@@ -51,10 +64,8 @@ impl Stream {
         ensures counter { result.counter ≡ counter 0 }
         ensures called { Called (C.answer cipher.old) (C.count cipher.old) 1 (C.answer cipher.new) (C.count cipher.new) }
     {
-        let mut first = *nonce;
-        encipher(cipher, key, &[0; 16], FIRST_DOMAIN, NO_COUNTER, &mut first);
         Stream {
-            block_key: first,
+            block_key: of_nonce(cipher, key, FIRST_DOMAIN, NO_COUNTER, nonce),
             counter: FIRST_COUNTER,
         }
     }
@@ -64,15 +75,7 @@ impl Stream {
         ensures part { part.new ≡ xors part.old (enciphered (C.answer cipher.old) self.now.block_key zero_block 64 self.now.counter nonce.now) }
         ensures called { Called (C.answer cipher.old) (C.count cipher.old) 1 (C.answer cipher.new) (C.count cipher.new) }
     {
-        let mut mask = *nonce;
-        encipher(
-            cipher,
-            &self.block_key,
-            &[0; 16],
-            STREAM_DOMAIN,
-            self.counter,
-            &mut mask,
-        );
+        let mask = of_nonce(cipher, &self.block_key, STREAM_DOMAIN, self.counter, nonce);
         xor_into(part, &mask);
     }
 
@@ -82,16 +85,7 @@ impl Stream {
         ensures counter { self.new.counter ≡ stepped self.old.counter }
         ensures called { Called (C.answer cipher.old) (C.count cipher.old) 1 (C.answer cipher.new) (C.count cipher.new) }
     {
-        let mut next = *nonce;
-        encipher(
-            cipher,
-            &self.block_key,
-            &[0; 16],
-            NEXT_DOMAIN,
-            self.counter,
-            &mut next,
-        );
-        self.block_key = next;
+        self.block_key = of_nonce(cipher, &self.block_key, NEXT_DOMAIN, self.counter, nonce);
         self.counter = step(self.counter);
     }
 }
@@ -119,6 +113,7 @@ fn cover<C: Cipher>(cipher: &mut C, key: &[u8; 16], nonce: &[u8; 16], text: &mut
 fn counter_at(m: usize) -> u64
     ensures { result ≡ counter m }
 {
+    // a loop, since a proof does not find what `fold` made
     let mut value = FIRST_COUNTER;
     for _i in 0..m {
         value = step(value);

@@ -34,7 +34,8 @@ pub struct Ended<M, C, D, S, R> {
     pub two: Retired<M, D, R>,
 }
 
-// Why a making was refused, and its parts as they were.
+// Why a making was refused, and its parts as they were. Taken apart and put together by hand, since a post owns its parts and its allowance
+// is no part of it.
 fn handed_back<M, C, S>(unmade: Unmade<M, C, S>, allowance: u64) -> (Refusal, Parts<M, C, S>)
     ensures { result ≡ (unmade.refusal, record { mode = unmade.mode; cipher = unmade.cipher; source = unmade.source; allowance = allowance }) }
 {

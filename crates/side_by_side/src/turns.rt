@@ -2,7 +2,7 @@
 ghost use Rattle.std.specs.Prelude.{◌≡◌, map};
 ghost use Rattle.promise.specs.Answers.{Stepped, Run};
 ghost use Rattle.post.specs.Post.{standing_of};
-ghost use Rattle.side_by_side.specs.Turns.{asked, answered, given, transcript, unserved};
+ghost use Rattle.side_by_side.specs.Turns.{FitsNothing, asked, answered, given, transcript, unserved};
 
 use cipher::Cipher;
 use mode::{Mode, Outcome};
@@ -46,7 +46,8 @@ pub struct Turn {
 impl Turn {
     /// A request that waits to be served.
     pub fn new(request: Request) -> Turn
-        ensures { result ≡ unserved request }
+        ensures waits { result ≡ unserved request }
+        ensures unanswered { FitsNothing (answered result) }
     {
         Turn {
             request,

@@ -1,4 +1,4 @@
--- Where the tweakey schedule stands. Inner functions speak of it; no public contract does.
+-- Where the tweakey schedule stands, and the round constants in fours. Inner functions speak of it; no public contract does.
 use Rattle.std.specs.Prelude.{◌≡◌, ℕ, suc, ◌+◌, ◌*◌, ◌/◌, List, [], ◌∷◌, map}
 use Rattle.std.specs.List.{range_with_len}
 use Rattle.skinny.specs.Skinny.{rc, tk1, tk2, tk3, round_tweakey}

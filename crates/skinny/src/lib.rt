@@ -13,8 +13,8 @@ ghost use Rattle.skinny.specs.RoundCount.{round_count, Named};
 /// How many rounds: 40 in Skinny-128-384+, 56 in Skinny-128-384 as it was first published.
 #[derive(Clone, Copy)]
 pub enum Rounds {
-    Forty,
-    FiftySix,
+    Forty = 40,
+    FiftySix = 56,
 }
 
 impl Rounds {
@@ -22,10 +22,7 @@ impl Rounds {
     pub fn count(self) -> usize
         ensures { result ≡ round_count self }
     {
-        match self {
-            Rounds::Forty => 40,
-            Rounds::FiftySix => 56,
-        }
+        self as usize
     }
 }
 

@@ -11,7 +11,7 @@ use cipher::Counted;
 use mode::{Mode, is_clear};
 use posts::{after_wrong, two_empty_seals};
 use published::published;
-use refusals::Refusal;
+use refusals::{Refusal, answer_number};
 use romulus_h::hash;
 use romulus_m::RomulusM;
 use romulus_n::RomulusN;
@@ -44,12 +44,14 @@ fn refusals<M: Mode>(rt: &HostRuntime, name: &str, mode: &M) -> anyhow::Result<(
     check(rt, name, held == 13)
 }
 
-// Whether the hash of so long an input into a place so long answers so, and leaves zeros only after a refusal.
+// Whether the hash of so long an input into a place so long answers so, by the number too that is told outside, and leaves zeros only
+// after a refusal.
 fn hash_answers(
     heap: Global,
     input: usize,
     place: usize,
     answer: Result<(), Refusal>,
+    number: u8,
 ) -> Result<bool, AllocError> {
     let text = vec![in heap; 5; input]?;
     let mut digest = vec![in heap; 9; place]?;
@@ -61,6 +63,7 @@ fn hash_answers(
     };
     Ok(
         answered == answer
+            && answer_number(&answered) == number
             && cipher.calls() == calls
             && is_clear(digest.as_slice()) == answer.is_err(),
     )
@@ -69,55 +72,58 @@ fn hash_answers(
 // The hash at its limits.
 fn hash_limits(rt: &HostRuntime) -> anyhow::Result<()> {
     let cases = [
-        ("hash of 1,048,576 bytes", 1_048_576, 32, Ok(())),
+        ("hash of 1,048,576 bytes", 1_048_576, 32, Ok(()), 0),
         (
             "hash of 1,048,577 bytes is refused with 14",
             1_048_577,
             31,
             Err(Refusal::HashLength),
+            14,
         ),
         (
             "digest's place of 31 bytes is refused with 15",
             0,
             31,
             Err(Refusal::DigestLength),
+            15,
         ),
         (
             "digest's place of 33 bytes is refused with 15",
             64,
             33,
             Err(Refusal::DigestLength),
+            15,
         ),
     ];
-    for (name, input, place, answer) in cases {
-        check(rt, name, hash_answers(rt.alloc(), input, place, answer)?)?;
+    for (name, input, place, answer, number) in cases {
+        check(
+            rt,
+            name,
+            hash_answers(rt.alloc(), input, place, answer, number)?,
+        )?;
     }
     Ok(())
 }
 
 fn post_cases(rt: &HostRuntime) -> anyhow::Result<()> {
-    let spent = Some(Refusal::AllowanceSpent);
     let cases = [
         (
             "an empty seal of Romulus-N at the allowance 1 gives 11",
-            two_empty_seals(RomulusN, 1, 9) == Ok([spent, spent]),
+            two_empty_seals(RomulusN, 1, 9) == Ok([11, 11]),
         ),
         (
             "at the allowance 2 it is taken",
-            two_empty_seals(RomulusN, 2, 9) == Ok([None, spent]),
+            two_empty_seals(RomulusN, 2, 9) == Ok([0, 11]),
         ),
         (
             "a source of one nonce seals once, and then gives 12",
-            two_empty_seals(RomulusN, 100, 1) == Ok([None, Some(Refusal::NoNonce)]),
+            two_empty_seals(RomulusN, 100, 1) == Ok([0, 12]),
         ),
         (
             "13 deducts the cost of a wrong opening: in Romulus-N that of a right one",
-            after_wrong(RomulusN) == Ok((Err(Refusal::WrongFrame), 98)),
+            after_wrong(RomulusN) == Ok((13, 98)),
         ),
-        (
-            "in Romulus-T less",
-            after_wrong(RomulusT) == Ok((Err(Refusal::WrongFrame), 95)),
-        ),
+        ("in Romulus-T less", after_wrong(RomulusT) == Ok((13, 95))),
     ];
     for (name, holds) in cases {
         check(rt, name, holds)?;

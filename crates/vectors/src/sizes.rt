@@ -14,6 +14,8 @@ pub struct Sizes {
     pub tag: usize,
     pub nonce: usize,
     pub answer: Result<(), Refusal>,
+    /// The number that is told outside: 0 where the call is taken.
+    pub number: u8,
 }
 
 const LAWFUL: Sizes = Sizes {
@@ -24,6 +26,7 @@ const LAWFUL: Sizes = Sizes {
     tag: 16,
     nonce: 16,
     answer: Ok(()),
+    number: 0,
 };
 
 /// Each question answered no alone, and each with all later ones answered no too, so that the order shows.
@@ -32,32 +35,38 @@ pub const CASES: [Sizes; 13] = [
     Sizes {
         key: 15,
         answer: Err(Refusal::KeyLength),
+        number: 4,
         ..LAWFUL
     },
     Sizes {
         ad: 65536,
         answer: Err(Refusal::DataLength),
+        number: 6,
         ..LAWFUL
     },
     Sizes {
         text: 65536,
         out: 65536,
         answer: Err(Refusal::TextLength),
+        number: 7,
         ..LAWFUL
     },
     Sizes {
         out: 65534,
         answer: Err(Refusal::OutputLength),
+        number: 8,
         ..LAWFUL
     },
     Sizes {
         tag: 17,
         answer: Err(Refusal::TagLength),
+        number: 9,
         ..LAWFUL
     },
     Sizes {
         nonce: 0,
         answer: Err(Refusal::NonceLength),
+        number: 10,
         ..LAWFUL
     },
     Sizes {
@@ -68,6 +77,7 @@ pub const CASES: [Sizes; 13] = [
         tag: 0,
         nonce: 15,
         answer: Err(Refusal::KeyLength),
+        number: 4,
     },
     Sizes {
         key: 16,
@@ -77,6 +87,7 @@ pub const CASES: [Sizes; 13] = [
         tag: 0,
         nonce: 15,
         answer: Err(Refusal::DataLength),
+        number: 6,
     },
     Sizes {
         key: 16,
@@ -86,6 +97,7 @@ pub const CASES: [Sizes; 13] = [
         tag: 0,
         nonce: 15,
         answer: Err(Refusal::TextLength),
+        number: 7,
     },
     Sizes {
         key: 16,
@@ -95,6 +107,7 @@ pub const CASES: [Sizes; 13] = [
         tag: 0,
         nonce: 15,
         answer: Err(Refusal::OutputLength),
+        number: 8,
     },
     Sizes {
         key: 16,
@@ -104,6 +117,7 @@ pub const CASES: [Sizes; 13] = [
         tag: 0,
         nonce: 15,
         answer: Err(Refusal::TagLength),
+        number: 9,
     },
     Sizes {
         key: 16,
@@ -113,6 +127,7 @@ pub const CASES: [Sizes; 13] = [
         tag: 16,
         nonce: 15,
         answer: Err(Refusal::NonceLength),
+        number: 10,
     },
 ];
 
@@ -139,7 +154,9 @@ pub(crate) fn refused_so<M: Mode, C: Cipher>(
         tag.as_mut_slice(),
     );
     let cleared = sealed.cost == 0 && is_clear(out.as_slice()) && is_clear(tag.as_slice());
-    let sealed_so = sealed.answer == sizes.answer && (sealed.answer.is_ok() || cleared);
+    let sealed_so = sealed.answer == sizes.answer
+        && sealed.number() == sizes.number
+        && (sealed.answer.is_ok() || cleared);
     let opened = mode.open(
         cipher,
         key.as_slice(),
@@ -150,6 +167,12 @@ pub(crate) fn refused_so<M: Mode, C: Cipher>(
         out.as_mut_slice(),
     );
     // nobody sealed the frame, so that lawful sizes only lead to the last question
-    let opened_so = opened.answer == sizes.answer.and(Err(Refusal::WrongFrame));
+    let number = if sizes.answer.is_ok() {
+        13
+    } else {
+        sizes.number
+    };
+    let opened_so = opened.answer == sizes.answer.and(Err(Refusal::WrongFrame))
+        && opened.number() == number;
     Ok(sealed_so && opened_so && is_clear(out.as_slice()))
 }

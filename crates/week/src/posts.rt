@@ -41,6 +41,7 @@ pub(crate) fn wednesday(workshop: Workshop, frame: &Frame) -> anyhow::Result<Fra
     };
     println!(rt; "  record: {settings}")?;
     let record = format!(in rt.alloc(); "{settings}")?;
+    // the nonce is the post's to tell
     let mut changed = Frame::blank(rt.alloc(), [0; 16], frame.label.as_slice(), record.len())?;
     let (sealed, reading) = seal_by_post(workshop.rounds, &mut changed, record.as_bytes())?;
     let number = sealed.number();
