@@ -62,6 +62,7 @@ struct Sizes {
 /// A mode, the books, the generator and the last frame.
 #[derive(Drop)]
 pub struct Bench<M> {
+    heap: Global,
     mode: M,
     pub books: Books,
     generator: Generator,
@@ -119,6 +120,7 @@ impl<M: Mode + Copy> Bench<M> {
             message: None,
         };
         Ok(Bench {
+            heap,
             mode,
             books,
             generator,
@@ -129,12 +131,11 @@ impl<M: Mode + Copy> Bench<M> {
     /// So many calls, or those until one fails.
     pub(crate) fn calls<C: Cipher, S: NonceSource>(
         &mut self,
-        heap: Global,
         post: &mut Post<M, C, S>,
         calls: u64,
     ) -> Result<(), AllocError> {
         for _ in 0..calls {
-            self.call(heap, post)?;
+            self.call(post)?;
         }
         Ok(())
     }
@@ -142,7 +143,6 @@ impl<M: Mode + Copy> Bench<M> {
     // One call, of a kind that the generator picks.
     fn call<C: Cipher, S: NonceSource>(
         &mut self,
-        heap: Global,
         post: &mut Post<M, C, S>,
     ) -> Result<(), AllocError> {
         // a random choice
@@ -151,23 +151,22 @@ impl<M: Mode + Copy> Bench<M> {
                 self.books.compare(post.read_out());
                 Ok(())
             }
-            1..=3 => self.open(heap, post),
-            _ => self.seal(heap, post),
+            1..=3 => self.open(post),
+            _ => self.seal(post),
         }
     }
 
     fn seal<C: Cipher, S: NonceSource>(
         &mut self,
-        heap: Global,
         post: &mut Post<M, C, S>,
     ) -> Result<(), AllocError> {
         let ad_len = self.generator.below(50) as usize;
         let len = self.generator.below(90) as usize;
         let s = pick_sizes(&mut self.generator, ad_len, len);
-        let ad = vec![in heap; self.generator.below(255); s.ad]?;
-        let message = vec![in heap; self.generator.below(255); s.text]?;
-        let mut out = vec![in heap; 0xee; s.out]?;
-        let mut tag = vec![in heap; 0xee; s.tag]?;
+        let ad = vec![in self.heap; self.generator.below(255); s.ad]?;
+        let message = vec![in self.heap; self.generator.below(255); s.text]?;
+        let mut out = vec![in self.heap; 0xee; s.out]?;
+        let mut tag = vec![in self.heap; 0xee; s.tag]?;
         let outcome = post.seal(
             ad.as_slice(),
             message.as_slice(),
@@ -198,13 +197,12 @@ impl<M: Mode + Copy> Bench<M> {
 
     fn open<C: Cipher, S: NonceSource>(
         &mut self,
-        heap: Global,
         post: &mut Post<M, C, S>,
     ) -> Result<(), AllocError> {
         // before the first seal there is no right frame
         let right = self.kept.message.is_some() && self.generator.below(3) != 0;
         let short = self.generator.below(16) == 0;
-        let (outcome, out) = self.kept.open_by(heap, post, right, short)?;
+        let (outcome, out) = self.kept.open_by(self.heap, post, right, short)?;
         let expected = Expected {
             sizes: if short {
                 Err(Refusal::NonceLength)

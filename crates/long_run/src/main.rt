@@ -57,7 +57,7 @@ fn run<M: Mode + Copy, S: NonceSource + Drop>(
     let mut post = Post::new(mode, cipher, source, &KEY, allowance).map_err(|_| anyhow!(
         "the making was refused"
     ))?;
-    let called = bench.calls(rt.alloc(), &mut post, calls);
+    let called = bench.calls(&mut post, calls);
     let retired = post.retire();
     bench.books.compare(retired.reading);
     let books = &bench.books;
