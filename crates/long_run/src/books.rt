@@ -23,6 +23,33 @@ pub struct Expected {
     pub costs: Costs,
 }
 
+// The number that is told outside of an answer. The numbers stand here once more, so that the books do not lean on the library.
+fn number_due(answer: Result<(), Refusal>) -> u8 {
+    match answer {
+        Ok(()) => 0,
+        Err(Refusal::CountRange) => 1,
+        Err(Refusal::SheetSize) => 2,
+        Err(Refusal::SheetRepeats) => 3,
+        Err(Refusal::KeyLength) => 4,
+        Err(Refusal::AllowanceSize) => 5,
+        Err(Refusal::DataLength) => 6,
+        Err(Refusal::TextLength) => 7,
+        Err(Refusal::OutputLength) => 8,
+        Err(Refusal::TagLength) => 9,
+        Err(Refusal::NonceLength) => 10,
+        Err(Refusal::AllowanceSpent) => 11,
+        Err(Refusal::NoNonce) => 12,
+        Err(Refusal::WrongFrame) => 13,
+        Err(Refusal::HashLength) => 14,
+        Err(Refusal::DigestLength) => 15,
+    }
+}
+
+// An outcome, written out for the same reason.
+fn outcome_of(answer: Result<(), Refusal>, cost: u64) -> Outcome<()> {
+    Outcome { answer, cost }
+}
+
 impl Books {
     pub(crate) fn new(allowance: u64, nonces: u64) -> Books {
         Books {
@@ -45,31 +72,31 @@ impl Books {
         if let Some(n) = self.answers.get_mut(outcome.number() as usize) {
             *n = n.wrapping_add(1);
         }
-        self.expect(outcome.number() == due.number() && outcome.cost == due.cost);
+        self.expect(outcome.number() == number_due(due.answer) && outcome.cost == due.cost);
         self.reading.left = self.reading.left.wrapping_sub(due.cost);
     }
 
     fn due_seal(&self, call: Expected) -> Outcome<()> {
-        if let Err(refusal) = call.sizes {
-            Outcome::refused(refusal)
+        if call.sizes.is_err() {
+            outcome_of(call.sizes, 0)
         } else if call.costs.seal > self.reading.left {
-            Outcome::refused(Refusal::AllowanceSpent)
+            outcome_of(Err(Refusal::AllowanceSpent), 0)
         } else if self.nonces == 0 {
-            Outcome::refused(Refusal::NoNonce)
+            outcome_of(Err(Refusal::NoNonce), 0)
         } else {
-            Outcome::taken((), call.costs.seal)
+            outcome_of(Ok(()), call.costs.seal)
         }
     }
 
     fn due_open(&self, call: Expected, right: bool) -> Outcome<()> {
-        if let Err(refusal) = call.sizes {
-            Outcome::refused(refusal)
+        if call.sizes.is_err() {
+            outcome_of(call.sizes, 0)
         } else if call.costs.right > self.reading.left {
-            Outcome::refused(Refusal::AllowanceSpent)
+            outcome_of(Err(Refusal::AllowanceSpent), 0)
         } else if right {
-            Outcome::taken((), call.costs.right)
+            outcome_of(Ok(()), call.costs.right)
         } else {
-            Outcome::wrong(call.costs.wrong)
+            outcome_of(Err(Refusal::WrongFrame), call.costs.wrong)
         }
     }
 
@@ -101,8 +128,7 @@ impl Books {
 
     /// A making of a source or a post: what it should answer, and what it did.
     pub(crate) fn making(&mut self, due: Result<(), Refusal>, made: Result<(), Refusal>) {
-        let [due, made] = [due, made].map(|answer| Outcome { answer, cost: 0 });
-        self.note(&made, due);
+        self.note(&outcome_of(made, 0), outcome_of(due, 0));
     }
 
     /// Something else that should hold of an answer, as zeros after a refusal.

@@ -97,8 +97,8 @@ fn on_all_sources<M: Mode + Copy>(
         nonces,
         calls,
     };
-    let sheet = Sheet::new(entries).map_err(|_| anyhow!("the sheet was refused"))?;
     run(rt, mode_name, mode, counting()?, lasting)?;
+    let sheet = Sheet::new(entries).map_err(|_| anyhow!("the sheet was refused"))?;
     run(rt, mode_name, mode, sheet, on_sheet)?;
     run(rt, mode_name, mode, counting()?, scant)
 }

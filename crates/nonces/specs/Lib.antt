@@ -1,3 +1,4 @@
 pub mod Nonces
 pub mod Sources
+pub mod LastPlaces
 pub mod Proper

@@ -45,7 +45,7 @@ counted_proper prefix first amount l b w =
     record { nonces = counted_nonces prefix first amount l (All-from_get_or (λ b. b < 256) prefix 0 (λ i h. b i)); no_repeats = counted_apart prefix first amount w }
 
 -- ---- sheets
-pairs_all : (pairs : List (List ℕ)) → AllByRecursion Nonce (map nonce_of pairs)
+pub pairs_all : (pairs : List (List ℕ)) → AllByRecursion Nonce (map nonce_of pairs)
 pairs_all [] = tt
 pairs_all (p ∷ ps) = (two_halves (big_endian (slice_index p 0)) (slice_index p 1) refl (big_endian_bytes (slice_index p 0)), pairs_all ps)
 

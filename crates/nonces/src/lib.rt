@@ -2,8 +2,9 @@
 #![tactic(auto)]
 
 ghost use Rattle.std.specs.Prelude.{◌≡◌, ℕ, List, [], ◌∷◌, ◌++◌, Decides, MatchOption};
-ghost use Rattle.nonces.specs.Nonces.{NoncesProper, words};
-ghost use Rattle.nonces.specs.Sources.{big_endian};
+ghost use Rattle.nonces.specs.Nonces.{NoRepeats, NoncesProper, words};
+ghost use Rattle.nonces.specs.Sources.{big_endian, sheet_nonces};
+ghost use Rattle.nonces.specs.LastPlaces.{last_places};
 
 mod counting;
 mod sheet;
@@ -50,4 +51,13 @@ fn joined(a: [u8; 8], b: [u8; 8]) -> [u8; 16]
     ensures { result ≡ a ++ b }
 {
     [a, b].as_flattened().try_into().unwrap()
+}
+
+/// Whatever stands on a sheet, its nonces at their last places are what a source owes; and where they are all different, they are all of them.
+/// The theorem stands in the contract; the call does nothing.
+pub fn last_places_are_proper(entries: &[u64])
+    ensures proper { NoncesProper (last_places (sheet_nonces entries.now)) }
+    ensures same { NoRepeats (sheet_nonces entries.now) → last_places (sheet_nonces entries.now) ≡ sheet_nonces entries.now }
+{
+    let _ = entries;
 }

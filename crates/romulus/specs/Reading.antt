@@ -3,6 +3,12 @@ use Rattle.std.specs.Prelude.{◌≡◌, ℕ, ◌+◌, ◌-◌, Bool, List, [], 
 use Rattle.std.specs.List.{before_first}
 use Rattle.std.specs.declared.alloc.AllocError.{AllocError}
 
+-- What was read and not yet handed on: the bytes that wait, and how many bytes of the room before them were handed on.
+-- With a, b, c read and a handed on, 1, and b and c.
+pub record Rest : Type 0 where
+  pub handed_on : ℕ
+  pub waiting : List ℕ
+
 -- The characters before the first newline, or all where there is none: of a, b, newline, c it is a, b.
 abbrev pub first_line : List ℕ → List ℕ
 first_line bytes = before_first (λ c. c == 0x0a) bytes

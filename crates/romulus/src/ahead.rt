@@ -22,15 +22,15 @@ pub struct Ahead {
     end: usize,
 }
 
-// Clauses see the bytes that wait.
+// Clauses see the bytes that wait, and how much of the room was handed on: as all else is zeros, that is all that there is.
 impl Model for Ahead {
-    ghost use Rattle.std.specs.Prelude.{ℕ, List};
+    ghost use Rattle.romulus.specs.Reading.{Rest};
 
-    ghost Value = { List ℕ };
+    ghost Value = { Rest };
 
-    ghost use Rattle.romulus.specs.Waiting.{waiting, Cleared};
+    ghost use Rattle.romulus.specs.Waiting.{rest_of, Cleared};
 
-    ghost view = { waiting };
+    ghost view = { rest_of };
 
     ghost invariant = { Cleared };
 }
@@ -53,7 +53,8 @@ fn before_newline(bytes: &[u8]) -> usize
 impl Ahead {
     /// Nothing was read yet.
     pub fn new() -> Self
-        ensures { result ≡ [] }
+        ensures none { result.waiting ≡ [] }
+        ensures start { result.handed_on ≡ 0 }
     {
         Ahead {
             bytes: [0; ROOM],
@@ -64,16 +65,16 @@ impl Ahead {
 
     /// Whether all that was read is handed on.
     pub fn is_empty(&self) -> bool
-        ensures { result ≡ (length self.now == 0) }
+        ensures { result ≡ (length self.now.waiting == 0) }
     {
         self.at == self.end
     }
 
     /// Sees that something is waiting: once all is handed on, it reads on. False, as from `BufRead::has_data_left`: the input has ended.
     pub fn fill<R: Read>(&mut self, input: &mut R) -> io::Result<bool>
-        ensures more { IfOk result (λ more. more ≡ nat_lt 0 (length self.new)) }
-        ensures filled { Filled result self.new }
-        ensures kept { 0 < length self.old → self.new ≡ self.old }
+        ensures more { IfOk result (λ more. more ≡ nat_lt 0 (length self.new.waiting)) }
+        ensures filled { Filled result self.new.waiting }
+        ensures kept { 0 < length self.old.waiting → self.new ≡ self.old }
     {
         if !self.is_empty() {
             return Ok(true);
@@ -100,7 +101,7 @@ impl Ahead {
 
     // What is waiting to be handed on.
     fn waiting(&self) -> &[u8]
-        ensures value { result.now ≡ self.now }
+        ensures value { result.now ≡ self.now.waiting }
         ensures bound { length result.now ≤ 8192 }
     {
         &self.bytes[self.at..self.end]
@@ -108,7 +109,7 @@ impl Ahead {
 
     // Clears the first of what is waiting, as much as there is.
     fn clear(&mut self, n: usize)
-        ensures { self.new ≡ drop n self.old }
+        ensures { self.new.waiting ≡ drop n self.old.waiting }
     {
         let next = self.at + n.min(self.end - self.at);
         self.bytes[self.at..next].fill(0);
@@ -118,7 +119,7 @@ impl Ahead {
     /// Hands on what is waiting to a line, up to the first newline, as far as a line is kept. Says whether the newline came, which is all that there is to say.
     /// A line with room for 8,193 characters never wants memory.
     pub fn take(&mut self, line: &mut Vec<u8>) -> Result<bool, AllocError>
-        ensures taken { Taken self.old line.old.items result self.new line.new.items }
+        ensures taken { Taken self.old.waiting line.old.items result self.new.waiting line.new.items }
         ensures kept { length line.old.items ≤ 8193 → length line.new.items ≤ 8193 }
         ensures roomy { length line.old.items ≤ 8193 → 8193 ≤ vec_capacity line.old → is_ok result ≡ true }
         ensures room { vec_capacity line.old ≤ vec_capacity line.new }

@@ -10,7 +10,23 @@ use lines::session::Session;
 use std::io;
 use std::io::{BufWriter, Stdin, Write};
 
-// Reads the next line, without its newline, or none once the input has ended. Of a line that is too long just enough is kept to tell.
+// Reads the next line, without its newline. Of a line that is too long just enough is kept to tell. False: the input has ended.
+fn read_line(input: &mut Stdin, ahead: &mut Ahead, line: &mut Vec<u8>) -> io::Result<bool>
+    ensures { length line.new.items ≤ 8193 }
+{
+    line.clear();
+    if !ahead.fill(input)? {
+        return Ok(false);
+    }
+    for _ in 0..u64::MAX {
+        if ahead.take(line)? || !ahead.fill(input)? {
+            break;
+        }
+    }
+    Ok(true)
+}
+
+// The next line, or none once the input has ended.
 fn next_line<'a>(
     input: &mut Stdin,
     ahead: &mut Ahead,
@@ -18,16 +34,11 @@ fn next_line<'a>(
 ) -> io::Result<Option<&'a mut [u8]>>
     ensures { IfOk result (λ next. IfSome next (λ l. length l.now ≤ 8193)) }
 {
-    line.clear();
-    if !ahead.fill(input)? {
-        return Ok(None);
-    }
-    for _ in 0..u64::MAX {
-        if ahead.take(line)? || !ahead.fill(input)? {
-            break;
-        }
-    }
-    Ok(Some(line.as_mut_slice()))
+    Ok(if read_line(input, ahead, line)? {
+        Some(line.as_mut_slice())
+    } else {
+        None
+    })
 }
 
 // Answers each line as it comes, until the input ends.

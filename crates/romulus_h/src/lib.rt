@@ -120,6 +120,8 @@ impl Hasher {
     }
 
     /// The digest where this text is the end.
+    // in line, so that a caller's stack holds no second frame for it
+    #[inline(always)]
     pub fn finish<C: Cipher>(mut self, cipher: &mut C, text: &[u8]) -> Digest
         ensures digest { result.left ++ result.right ≡ digest_after (C.answer cipher.old) self text.now }
         ensures called { Called (C.answer cipher.old) (C.count cipher.old) (calls_after self (length text.now)) (C.answer cipher.new) (C.count cipher.new) }

@@ -103,6 +103,8 @@ fn authenticate<C: Cipher>(
 }
 
 // The text under a tag, in its own place.
+// out of line, so that a post's stack does not hold its block beside those of the other modes
+#[inline(never)]
 fn pass<C: Cipher>(
     cipher: &mut C,
     key: &[u8; 16],

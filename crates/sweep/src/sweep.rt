@@ -55,8 +55,8 @@ impl<M: Mode> Sweep<M> {
         })
     }
 
-    // Opens a frame: the message, or why it was refused.
-    fn open(&mut self, frame: &Sealed) -> Result<Result<Vec<u8>, Refusal>, AllocError> {
+    // Opens a frame: the number that is told outside, and the message or why it was refused.
+    fn open(&mut self, frame: &Sealed) -> Result<(u8, Result<Vec<u8>, Refusal>), AllocError> {
         let mut out = vec![in self.heap; 0; frame.text.len()]?;
         let costs = self.mode.costs(frame.ad.len(), frame.text.len());
         let before = self.cipher.calls();
@@ -75,21 +75,21 @@ impl<M: Mode> Sweep<M> {
         };
         let rose = self.cipher.calls().wrapping_sub(before);
         self.totals.count_calls(rose, told, outcome.cost);
-        Ok(opened)
+        Ok((outcome.number(), opened))
     }
 
     /// One case: sealed, opened, and opened once more with each part damaged.
     pub(crate) fn run(&mut self, case: &Case) -> Result<(), AllocError> {
         let sealed = self.seal(case)?;
         self.totals.chain(self.heap, &sealed)?;
-        let opened = self.open(&sealed)?;
-        self.totals
-            .count_right(opened.is_ok_and(|message| message == case.message));
+        let (number, opened) = self.open(&sealed)?;
+        let right = opened.is_ok_and(|message| message == case.message);
+        self.totals.count_right(number == 0 && right);
         for part in [Part::Nonce, Part::Data, Part::Text, Part::Tag] {
             if let Some(damaged) = sealed.damaged(part)? {
-                let opened = self.open(&damaged)?;
-                self.totals
-                    .count_damaged(opened.err() == Some(Refusal::WrongFrame));
+                let (number, opened) = self.open(&damaged)?;
+                let wrong = opened.err() == Some(Refusal::WrongFrame);
+                self.totals.count_damaged(number == 13 && wrong);
             }
         }
         Ok(())

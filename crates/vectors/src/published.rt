@@ -1,5 +1,6 @@
 //! Published vectors of Skinny-128-384, compared with what the library computes.
-use cipher::BlockCipher;
+use byte_blocks::equal;
+use cipher::{Cipher, Counted};
 use skinny::{Rounds, Skinny};
 
 /// A published vector: the cipher, its tweakey and block, and the answer.
@@ -13,9 +14,10 @@ pub struct Vector {
 }
 
 impl Vector {
-    /// Whether the cipher gives the published answer.
+    /// Whether the cipher gives the published answer, by the call that the modes make.
     pub(crate) fn holds(&self) -> bool {
-        Skinny::new(self.rounds).encrypt_block(&self.tweakey, &self.block) == self.answer
+        let mut cipher = Counted::new(Skinny::new(self.rounds));
+        equal(&cipher.encrypt(&self.tweakey, &self.block), &self.answer)
     }
 }
 

@@ -2,6 +2,7 @@
 use crate::frame::Frame;
 use crate::settings::Settings;
 use crate::workshop::{Workshop, settings_in};
+use byte_blocks::equal;
 use cipher::Counted;
 use refusals::answer_number;
 use romulus_h::hash;
@@ -35,7 +36,8 @@ pub(crate) fn tuesday(rt: &HostRuntime, frame: &Frame) -> anyhow::Result<()> {
 }
 
 fn compared(one: &Frame, other: &Frame) -> &'static str {
-    if one == other {
+    // the tags without an early end, which `==` does not promise
+    if equal(&one.tag, &other.tag) && one == other {
         "the same frame"
     } else {
         "another frame"

@@ -27,4 +27,4 @@ returns c =
     let within : self.end ≤ length self.bytes = omega (arith, inv.within) in
     let few : k ≤ self.end - self.at = omega (arith, c.min.ensures) in
     let zs = part_cleared self.bytes c.fill.new.self self.at k (omega (arith, inv.ordered)) (c.fill.ensures.after (λ y e. e)) in
-    waiting_less self.bytes c.fill.new.self self.at self.end inv.ordered within c.args.n k c.min.ensures (ap length zs ∙ length-replicate k 0) ∙ ap (drop c.args.n) c.self.view_is
+    waiting_less self.bytes c.fill.new.self self.at self.end inv.ordered within c.args.n k c.min.ensures (ap length zs ∙ length-replicate k 0) ∙ ap (λ r. drop c.args.n r.waiting) c.self.view_is
